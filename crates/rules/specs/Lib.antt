@@ -1,0 +1,10 @@
+-- What a reader must believe, in the paper's order.
+pub mod Record
+pub mod Ring
+pub mod Feeder
+pub mod Moves
+pub mod Calls
+pub mod Machine
+
+-- W
+pub mod Table

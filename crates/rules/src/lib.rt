@@ -1,0 +1,155 @@
+// The record of the bench box, in small parts by what changes together, and the two makers of its values.
+ghost use mathlib.Core.Path.{_≡_};
+ghost use Rattle.rules.specs.Record.{granting, fresh};
+
+// Scan state.
+pub enum Scan {
+    Idle,
+    Pending,
+    Scanning,
+    Finishing,
+    Erred,
+}
+
+// Feeder state.
+pub enum Feed {
+    Unloaded,
+    Loaded,
+    Busy,
+    Erred,
+}
+
+// FailureCode.
+pub enum Failure {
+    None,
+    Jammed,
+    Timeout,
+}
+
+// The granted time.
+pub struct Granted {
+    pub seconds: u16,
+}
+
+pub struct Scanner {
+    pub state: Scan,
+    pub failure: Failure,
+}
+
+// The job held (0 for none), the last number given, its time, its quiet seconds, the stop-asked mark.
+pub struct Job {
+    pub held: u32,
+    pub last: u32,
+    pub granted: Granted,
+    pub quiet: u16,
+    pub stop: u8,
+}
+
+// SideNumber, SideCount as the bits of its two's complement, DestinationID.
+pub struct Side {
+    pub number: u16,
+    pub count: u32,
+    pub destination: u32,
+}
+
+// UseFeeder and AppendSideNumber.
+pub struct Settings {
+    pub feeder: u8,
+    pub append: u8,
+}
+
+// The feeder with the tray sensor (MorePages) and the path sensor (1 is jammed).
+pub struct Feeder {
+    pub state: Feed,
+    pub failure: Failure,
+    pub tray: u8,
+    pub path: u8,
+}
+
+// Where the stored picture bytes start in the lent ring, and how many there are.
+pub struct Ring {
+    pub start: usize,
+    pub stored: usize,
+}
+
+pub struct Record {
+    pub scanner: Scanner,
+    pub job: Job,
+    pub side: Side,
+    pub settings: Settings,
+    pub feeder: Feeder,
+    pub ring: Ring,
+}
+
+impl Granted {
+    pub const LEAST: u16 = 5;
+
+    pub const MOST: u16 = 600;
+
+    pub const USUAL: u16 = 60;
+
+    // Every asked time is taken, whatever 32 bits hold.
+    pub fn grant(asked: u32) -> Granted
+        ensures { λ r. ⌜ r ≡ granting asked ⌝ }
+    {
+        if asked == 0 {
+            return Granted {
+                seconds: Granted::USUAL,
+            };
+        }
+        if asked < Granted::LEAST as u32 {
+            return Granted {
+                seconds: Granted::LEAST,
+            };
+        }
+        if asked > Granted::MOST as u32 {
+            return Granted {
+                seconds: Granted::MOST,
+            };
+        }
+        Granted {
+            seconds: asked as u16,
+        }
+    }
+}
+
+impl Record {
+    pub fn fresh() -> Record
+        ensures { λ r. ⌜ r ≡ fresh ⌝ }
+    {
+        Record {
+            scanner: Scanner {
+                state: Scan::Idle,
+                failure: Failure::None,
+            },
+            job: Job {
+                held: 0,
+                last: 0,
+                granted: Granted {
+                    seconds: Granted::USUAL,
+                },
+                quiet: 0,
+                stop: 0,
+            },
+            side: Side {
+                number: 1,
+                count: 0,
+                destination: 0,
+            },
+            settings: Settings {
+                feeder: 1,
+                append: 1,
+            },
+            feeder: Feeder {
+                state: Feed::Unloaded,
+                failure: Failure::None,
+                tray: 0,
+                path: 0,
+            },
+            ring: Ring {
+                start: 0,
+                stored: 0,
+            },
+        }
+    }
+}
