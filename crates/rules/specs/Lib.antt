@@ -6,5 +6,6 @@ pub mod Moves
 pub mod Calls
 pub mod Machine
 
--- W
+pub mod Watch
+pub mod Promises
 pub mod Table

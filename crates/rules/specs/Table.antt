@@ -27,7 +27,8 @@ failing [] = []
 failing (c ∷ cs) = cond (c .right) (failing cs) (c .says ∷ failing cs)
 
 -- the outcome of a call after others
-abbrev pub final : State → List Call → Call → Outcome
+unfoldable pub final : State → List Call → Call → Outcome
+unfolding run step answer scanRefusals feederRefusals reportRefusals refusals scanEffect feederEffect reportEffect effect sound begun released given readied started stopped name drained moved fetched filled finished sideEnded jams pathed ticked
 final s cs c = step (run s cs .end) c
 
 abbrev pub scanCode : Scan → ℕ
@@ -142,6 +143,10 @@ filling = feedingOf 1 ++ report (Bytes (65 ∷ 66 ∷ 67 ∷ [])) ∷ []
 abbrev pub jamming : List Call
 jamming = feedingOf 1 ++ report (Path 1) ∷ []
 
+-- the job in Erred, so many seconds quiet
+abbrev pub erredFor : ℕ → State
+erredFor q = boxed (quietAt q (run box jamming .end .box))
+
 -- ---- both sides of each line: the cases marked *
 abbrev pub starred : List Case
 starred =
@@ -173,8 +178,8 @@ edges =
     ∷ within "DestinationID stays where none begins" box [] (scan (StartScan 0 0 1 0)) (0 ∷ 0 ∷ 0 ∷ 0 ∷ 0 ∷ 0 ∷ 0 ∷ 0 ∷ 0 ∷ [])
     ∷ within "DestinationID 4,294,967,295 goes to 0" lastDestination [] (scan (StartScan 0 1 1 0)) (0 ∷ 0 ∷ 0 ∷ 0 ∷ 0 ∷ 0 ∷ 0 ∷ 0 ∷ 0 ∷ [])
     ∷ case "−1 on the glass is stored as 1" box [] (scan (StartScan 0 endless 1 0)) (line 0 Scanning Unloaded 1 1 1 (60 ∷ []))
-    ∷ case "in Erred 299 ticks hold the job" box (jamming ++ ticks 298) (report Tick) (line 0 Erred Stuck 1 1 1 [])
-    ∷ case "in Erred the 300th ends it" box (jamming ++ ticks 299) (report Tick) (line 0 Idle Stuck 0 1 0 [])
+    ∷ case "in Erred 299 quiet seconds hold the job" (erredFor 298) [] (report Tick) (line 0 Erred Stuck 1 1 1 [])
+    ∷ case "in Erred the 300th ends it" (erredFor 299) [] (report Tick) (line 0 Idle Stuck 0 1 0 [])
     ∷ within "a job that ends by time: Timeout, a Busy feeder too" box (filling ++ ticks 9) (report Tick) (0 ∷ 0 ∷ 1 ∷ 2 ∷ 2 ∷ 1 ∷ 0 ∷ 0 ∷ 0 ∷ [])
     ∷ case "and the feeder Erred" box (filling ++ ticks 9) (report Tick) (line 0 Idle Stuck 0 1 0 [])
     ∷ within "Start: FailureCode none" box (jamming ++ report (Path 0) ∷ []) (scan (Start 1 0 0)) (0 ∷ 0 ∷ 1 ∷ 0 ∷ 1 ∷ 1 ∷ 0 ∷ 0 ∷ 0 ∷ [])
@@ -313,9 +318,29 @@ readings =
 abbrev pub table : List Case
 table = starred ++ edges ++ slips ++ refusing ++ every604 ++ readings
 
-pub table-holds : failing table ≡ []
-unfolding failing run step answer scanRefusals feederRefusals reportRefusals refusals scanEffect feederEffect reportEffect effect sound begun released given readied started stopped name drained moved fetched filled finished sideEnded jams pathed ticked
-table-holds = refl
+pub starred-hold : failing starred ≡ []
+unfolding failing final
+starred-hold = refl
+
+pub edges-hold : failing edges ≡ []
+unfolding failing final
+edges-hold = refl
+
+pub slips-hold : failing slips ≡ []
+unfolding failing final
+slips-hold = refl
+
+pub refusing-hold : failing refusing ≡ []
+unfolding failing final
+refusing-hold = refl
+
+pub every604-hold : failing every604 ≡ []
+unfolding failing final
+every604-hold = refl
+
+pub readings-hold : failing readings ≡ []
+unfolding failing final
+readings-hold = refl
 
 -- ---- the worked example of the desk, at the level of calls
 abbrev pub worked : List Call
@@ -330,5 +355,5 @@ pub worked-holds :
     ∷ line 0 Finishing Unloaded 1 1 0 []
     ∷ line 0 Pending Unloaded 1 2 0 (2 ∷ 1 ∷ 65 ∷ 66 ∷ [])
     ∷ [])
-unfolding run step answer scanRefusals feederRefusals reportRefusals refusals scanEffect feederEffect reportEffect effect sound begun released given readied started stopped name drained moved fetched filled finished sideEnded jams pathed ticked
+unfolding final
 worked-holds = refl

@@ -1,0 +1,59 @@
+-- Booleans, and what holds of a choice.
+use mathlib.Core.Path.{_≡_, refl, sym, _∙_, ap}
+use mathlib.Core.Bool.{Bool, true, false, not, _&&_, _||_, cond, Bool·beq, true≢false, false≢true}
+use Rattle.rules.specs.Record.{implies}
+
+-- a choice has a property where both of its sides have it
+pub choice : {A : Type 0} (P : A → Type 0) (t : Bool) {x y : A} → (t ≡ true → P x) → (t ≡ false → P y) → P (cond t x y)
+choice P true f g = f refl
+choice P false f g = g refl
+
+pub clash : {A : Type 0} {t : Bool} → t ≡ true → t ≡ false → A
+clash p q = absurd (true≢false (sym p ∙ q))
+
+pub beq-eq : (a b : Bool) → Bool·beq a b ≡ true → a ≡ b
+beq-eq true true e = refl
+beq-eq true false e = sym e
+beq-eq false true e = e
+beq-eq false false e = refl
+
+pub eq-beq : (a b : Bool) → a ≡ b → Bool·beq a b ≡ true
+eq-beq true true e = refl
+eq-beq true false e = sym e
+eq-beq false true e = e
+eq-beq false false e = refl
+
+pub implied : (a b : Bool) → b ≡ true → implies a b ≡ true
+implied true b e = e
+implied false b e = refl
+
+pub vacuous : (a b : Bool) → a ≡ false → implies a b ≡ true
+vacuous a b e = rw e
+
+pub modus : (a b : Bool) → implies a b ≡ true → a ≡ true → b ≡ true
+modus true b h e = h
+modus false b h e = absurd (false≢true e)
+
+pub tollens : (a b : Bool) → implies a b ≡ true → b ≡ false → a ≡ false
+tollens true b h e = absurd (true≢false (sym h ∙ e))
+tollens false b h e = refl
+
+pub or-l : (a b : Bool) → (a || b) ≡ false → a ≡ false
+or-l true b e = e
+or-l false b e = refl
+
+pub or-r : (a b : Bool) → (a || b) ≡ false → b ≡ false
+or-r true b e = absurd (true≢false e)
+or-r false b e = e
+
+pub and-l : (a b : Bool) → (a && b) ≡ true → a ≡ true
+and-l true b e = refl
+and-l false b e = absurd (false≢true e)
+
+pub and-r : (a b : Bool) → (a && b) ≡ true → b ≡ true
+and-r true b e = e
+and-r false b e = absurd (false≢true e)
+
+pub and-not : (a b : Bool) → (a && b) ≡ false → a ≡ true → b ≡ false
+and-not true b h e = h
+and-not false b h e = absurd (false≢true e)

@@ -1,0 +1,4 @@
+pub mod Choice
+pub mod Sound
+pub mod Cases
+pub mod Keeps

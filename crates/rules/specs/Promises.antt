@@ -1,0 +1,112 @@
+-- What the theorems say, in the words of the three demands. The theorems stand in proofs/Theorems.antt.
+use Prim.Native.Nat.{ℕ, suc, _+_, _≤_, _<_}
+use mathlib.Core.Path.{_≡_}
+use mathlib.Core.Bool.{Bool, true, false, _||_, cond}
+use mathlib.Core.List.{List, [], _∷_, _++_, map}
+use lib.Dec.{eqb}
+use lib.ListN.{length}
+use Rattle.rules.specs.declared.Scan.{Scan}
+use Rattle.rules.specs.declared.Failure.{Failure}
+use Rattle.rules.specs.declared.Record.{Record}
+use Rattle.rules.specs.Record.{mostRing, idle, pending, erred, on}
+use Rattle.rules.specs.Feeder.{unloads}
+use Rattle.rules.specs.Moves.{withFeeder}
+use Rattle.rules.specs.Calls.{Stop, Abort, Fetch, Load, SideEnded, Tick, Call, scan, feeder, report, Reason, numberOf, State, Values, nothing, picture, Outcome, lent, Line, refuse, leaving, to}
+use Rattle.rules.specs.Machine.{Ran, step}
+use Rattle.rules.specs.Watch.{scanOf, taken, bytesIn, countIn, sign, ticks, seconds, ordinal, Tagged, byteOf, accepted, World, next, due, got}
+
+-- every member of a list has a property
+abbrev pub All : {A : Type 0} → (A → Type 0) → List A → Type 0
+All P [] = Unit {0}
+All P (x ∷ xs) = P x × All P xs
+
+-- a ring that a box may be lent
+pub record Ringed (ring : List ℕ) : Type 0 where
+  pub least : 1 ≤ length ring
+  pub most : length ring ≤ mostRing
+
+-- ---- demand 1
+-- n is the number of the first line whose test holds, or 0 where none does
+pub data First : ℕ → List Line → Type 0 where
+  none : First 0 []
+  refuses : {n : Reason} {t : Bool} {ls : List Line} → t ≡ true → First (numberOf n) (refuse n t ∷ ls)
+  passes : {m : ℕ} {n : Reason} {t : Bool} {ls : List Line} → t ≡ false → First m ls → First m (refuse n t ∷ ls)
+  leaves : {n : Reason} {t : Bool} {r : Record} {ls : List Line} → t ≡ true → First (numberOf n) (leaving n t r ∷ ls)
+  goes : {m : ℕ} {n : Reason} {t : Bool} {r : Record} {ls : List Line} → t ≡ false → First m ls → First m (leaving n t r ∷ ls)
+
+-- 0, or the number of one of the reasons
+pub data OneOf : ℕ → List Reason → Type 0 where
+  zero : {rs : List Reason} → OneOf 0 rs
+  here : {r : Reason} {rs : List Reason} → OneOf (numberOf r) (r ∷ rs)
+  there : {n : ℕ} {r : Reason} {rs : List Reason} → OneOf n rs → OneOf n (r ∷ rs)
+
+-- all as it was; or Load's 713, which leaves the feeder Unloaded and the rest
+pub data Left (s : State) (c : Call) (o : Outcome) : Type 0 where
+  asItWas : o .state ≡ s → Left s c o
+  byLoad : (j : ℕ) → c ≡ feeder (Load j) → o .number ≡ 713 → o .state ≡ to (withFeeder (unloads (s .box .feeder)) (s .box)) s
+      → Left s c o
+
+pub record Refusal (s : State) (c : Call) (o : Outcome) : Type 0 where
+  pub values : o .values ≡ nothing
+  pub reply : o .reply ≡ lent c
+  pub left : Left s c o
+
+-- ---- demand 2: any box, and what it makes of a list of calls
+unfoldable pub runBy : (State → Call → Outcome) → State → List Call → Ran
+runBy box s [] = record { outcomes = []; end = s }
+runBy box s (c ∷ cs) =
+    let rest = runBy box (box s c .state) cs in
+    record { outcomes = box s c ∷ rest .outcomes; end = rest .end }
+
+-- ---- demand 3
+-- the next Tick ends the job held, with FailureCode Timeout, exactly when the seconds then reach the limit; else it stays
+pub record OnTime (w : World) (o : Outcome) : Type 0 where
+  pub soon : seconds (w .past) < due w
+  pub ends : suc (seconds (w .past)) ≡ due w
+      → (scanOf (o .state) ≡ Scan.Idle) × (o .state .box .job .held ≡ 0) × (o .state .box .scanner .failure ≡ Failure.Timeout)
+  pub stays : suc (seconds (w .past)) < due w
+      → (scanOf (o .state) ≡ scanOf (w .now)) × (o .state .box .job .held ≡ w .now .box .job .held)
+
+-- what may end the job held: that Tick, Stop in Pending or Erred, Abort, a drain step with a stop asked
+pub data EndsBy (w : World) (o : Outcome) : Call → Type 0 where
+  time : suc (seconds (w .past)) ≡ due w → EndsBy w o (report Tick)
+  stop : (pending (scanOf (w .now)) || erred (scanOf (w .now))) ≡ true → EndsBy w o (scan (Stop (w .now .box .job .held)))
+  abort : EndsBy w o (scan (Abort (w .now .box .job .held)))
+  lastFetch : {name reply bytes : List ℕ} {most k : ℕ} → on (w .now .box .job .stop) ≡ true → o .values ≡ picture k true bytes
+      → EndsBy w o (scan (Fetch name most reply))
+  sideEnd : on (w .now .box .job .stop) ≡ true → w .now .box .ring .stored ≡ 0 → EndsBy w o (report SideEnded)
+
+-- the job held is held on under its number, or has ended by one of these
+pub data Fate (w : World) (c : Call) (o : Outcome) : Type 0 where
+  held : idle (scanOf (o .state)) ≡ false → o .state .box .job .held ≡ w .now .box .job .held → Fate w c o
+  over : scanOf (o .state) ≡ Scan.Idle → o .state .box .job .held ≡ 0 → EndsBy w o c → Fate w c o
+
+-- a stretch of calls with no sign of life, and its Ticks
+abbrev pub Silent : World → List Call → Type 0
+Silent w [] = Unit {0}
+Silent w (c ∷ cs) = (sign c (scanOf (w .now)) (step (w .now) c) ≡ false) × Silent (next w c) cs
+
+abbrev pub ticksIn : List Call → ℕ
+ticksIn [] = 0
+ticksIn (c ∷ cs) = cond (ticks c) (suc (ticksIn cs)) (ticksIn cs)
+
+-- while the job is held after such a stretch from w to v, the second that was due is due and only Ticks moved the count;
+-- once the Ticks reach it the job is over
+pub record NotPutOff (w v : World) (cs : List Call) : Type 0 where
+  pub same : idle (scanOf (v .now)) ≡ false → due v ≡ due w
+  pub count : idle (scanOf (v .now)) ≡ false → seconds (v .past) ≡ seconds (w .past) + ticksIn cs
+  pub over : due w ≤ seconds (w .past) + ticksIn cs → scanOf (v .now) ≡ Scan.Idle
+
+-- a fetch yields, in order, bytes that stand together among all the accepted ones, each accepted for the job held
+pub record Yields (w : World) (o : Outcome) : Type 0 where
+  pub bytes : bytesIn (o .values) ≡ map byteOf (got w o)
+  pub count : length (bytesIn (o .values)) ≡ countIn (o .values)
+  pub ours : All (λ (t : Tagged). t .job ≡ ordinal (w .past)) (got w o)
+  pub gone : List Tagged
+  pub rest : List Tagged
+  pub among : accepted (w .past) ≡ gone ++ got w o ++ rest
+
+-- the j-th job has ended, however it ended
+pub data Ended (j : ℕ) (w : World) : Type 0 where
+  before : j < ordinal (w .past) → Ended j w
+  idles : j ≡ ordinal (w .past) → scanOf (w .now) ≡ Scan.Idle → Ended j w

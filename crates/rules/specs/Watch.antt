@@ -1,0 +1,194 @@
+-- A list of calls as a watcher sees it: what happened, newest first. The seconds, the granted time, the job's ordinal and
+-- whose the waiting bytes are come from that alone; the watcher never reads quiet, granted or the ring.
+use Prim.Native.Nat.{ℕ, suc}
+use mathlib.Core.Bool.{Bool, true, false, _&&_, _||_, cond}
+use mathlib.Core.List.{List, [], _∷_, _++_, map}
+use mathlib.Core.Option.{Option, none, some}
+use lib.Dec.{eqb, leb}
+use lib.ListN.{length, take, drop}
+use Rattle.rules.specs.declared.Scan.{Scan}
+use Rattle.rules.specs.Record.{usualTime, idle, scanning, erred, limit}
+use Rattle.rules.specs.Calls.{ScanCall, StartScan, Start, Stop, Abort, GetDestination, Fetch, GetState, GetSideInformation, Report, Bytes, SideEnded, Tray, Path, Tick, Call, scan, feeder, report, State, Values, nothing, time, destination, picture, state, sides, feeding, mode, stored, Outcome}
+use Rattle.rules.specs.Machine.{step, start}
+
+-- ---- what a call was, the scan state before it, and its outcome
+pub record Event : Type 0 where
+  pub before : Scan
+  pub call : Call
+  pub outcome : Outcome
+
+abbrev pub scanOf : State → Scan
+scanOf s = s .box .scanner .state
+
+-- 0 is acceptance
+abbrev pub taken : Outcome → Bool
+taken o = eqb (o .number) 0
+
+-- k of a fetch, and its bytes
+abbrev pub countIn : Values → ℕ
+countIn nothing = 0
+countIn (time t) = 0
+countIn (destination n i) = 0
+countIn (picture k l bs) = k
+countIn (state s f) = 0
+countIn (sides n c l) = 0
+countIn (feeding f t x) = 0
+countIn (mode m) = 0
+countIn (stored k) = 0
+
+abbrev pub bytesIn : Values → List ℕ
+bytesIn nothing = []
+bytesIn (time t) = []
+bytesIn (destination n i) = []
+bytesIn (picture k l bs) = bs
+bytesIn (state s f) = []
+bytesIn (sides n c l) = []
+bytesIn (feeding f t x) = []
+bytesIn (mode m) = []
+bytesIn (stored k) = []
+
+-- the granted time that an accepted StartScan answers
+abbrev pub timeIn : Values → Option ℕ
+timeIn nothing = none
+timeIn (time t) = some t
+timeIn (destination n i) = none
+timeIn (picture k l bs) = none
+timeIn (state s f) = none
+timeIn (sides n c l) = none
+timeIn (feeding f t x) = none
+timeIn (mode m) = none
+timeIn (stored k) = none
+
+-- ---- signs of life: accepted StartScan or Start; a fetch with k of 1 or more
+abbrev pub scanSign : ScanCall → Outcome → Bool
+scanSign (StartScan from c append asked) o = taken o
+scanSign (Start j from c) o = taken o
+scanSign (Stop j) o = false
+scanSign (Abort j) o = false
+scanSign (GetDestination j) o = false
+scanSign (Fetch name most reply) o = leb 1 (countIn (o .values))
+scanSign GetState o = false
+scanSign GetSideInformation o = false
+
+-- accepted Bytes of 1 or more; accepted Side ended; a Path report that turns Scanning into Erred
+abbrev pub reportSign : Report → Scan → Outcome → Bool
+reportSign (Bytes bs) before o = taken o && leb 1 (length bs)
+reportSign SideEnded before o = taken o
+reportSign (Tray v) before o = false
+reportSign (Path v) before o = scanning before && erred (scanOf (o .state))
+reportSign Tick before o = false
+
+-- nothing else
+abbrev pub sign : Call → Scan → Outcome → Bool
+sign (scan c) before o = scanSign c o
+sign (feeder c) before o = false
+sign (report c) before o = reportSign c before o
+
+-- ---- a second is a Tick
+abbrev pub reportTicks : Report → Bool
+reportTicks (Bytes bs) = false
+reportTicks SideEnded = false
+reportTicks (Tray v) = false
+reportTicks (Path v) = false
+reportTicks Tick = true
+
+abbrev pub ticks : Call → Bool
+ticks (scan c) = false
+ticks (feeder c) = false
+ticks (report c) = reportTicks c
+
+-- the seconds are the Ticks since the last sign of life, counted over the list
+abbrev pub counting : Bool → Bool → ℕ → ℕ
+counting true tick n = 0
+counting false true n = suc n
+counting false false n = n
+
+abbrev pub seconds : List Event → ℕ
+seconds [] = 0
+seconds (e ∷ es) = counting (sign (e .call) (e .before) (e .outcome)) (ticks (e .call)) (seconds es)
+
+-- ---- the time that the last accepted StartScan answered
+abbrev pub orElse : Option ℕ → ℕ → ℕ
+orElse none g = g
+orElse (some t) g = t
+
+abbrev pub granted : List Event → ℕ
+granted [] = usualTime
+granted (e ∷ es) = orElse (timeIn (e .outcome .values)) (granted es)
+
+-- ---- the job's ordinal: one more with each accepted StartScan; a number given again is a new job
+abbrev pub plusOne : Option ℕ → ℕ → ℕ
+plusOne none n = n
+plusOne (some t) n = suc n
+
+abbrev pub ordinal : List Event → ℕ
+ordinal [] = 0
+ordinal (e ∷ es) = plusOne (timeIn (e .outcome .values)) (ordinal es)
+
+-- ---- pictures: a job's are the bytes accepted while it was held
+pub record Tagged : Type 0 where
+  pub job : ℕ
+  pub byte : ℕ
+
+abbrev pub tag : ℕ → ℕ → Tagged
+tag j x = record { job = j; byte = x }
+
+abbrev pub byteOf : Tagged → ℕ
+byteOf t = t .byte
+
+abbrev pub reportBytes : Report → List ℕ
+reportBytes (Bytes bs) = bs
+reportBytes SideEnded = []
+reportBytes (Tray v) = []
+reportBytes (Path v) = []
+reportBytes Tick = []
+
+abbrev pub callBytes : Call → List ℕ
+callBytes (scan c) = []
+callBytes (feeder c) = []
+callBytes (report c) = reportBytes c
+
+abbrev pub brought : Call → Outcome → List ℕ
+brought c o = cond (taken o) (callBytes c) []
+
+-- all bytes ever accepted, oldest first
+abbrev pub accepted : List Event → List Tagged
+accepted [] = []
+accepted (e ∷ es) = accepted es ++ map (tag (ordinal (e ∷ es))) (brought (e .call) (e .outcome))
+
+-- those that wait: a fetch takes k from the front; the end of a job and a jam leave none
+abbrev pub wasted : Scan → Bool
+wasted s = idle s || erred s
+
+abbrev pub waiting : List Event → List Tagged
+waiting [] = []
+waiting (e ∷ es) =
+    cond (wasted (scanOf (e .outcome .state))) []
+    (drop (countIn (e .outcome .values)) (waiting es) ++ map (tag (ordinal (e ∷ es))) (brought (e .call) (e .outcome)))
+
+-- ---- a box, and what has happened to it
+pub record World : Type 0 where
+  pub now : State
+  pub past : List Event
+
+unfoldable pub next : World → Call → World
+next w c =
+    record {
+      now = step (w .now) c .state;
+      past = record { before = scanOf (w .now); call = c; outcome = step (w .now) c } ∷ w .past;
+    }
+
+unfoldable pub live : World → List Call → World
+live w [] = w
+live w (c ∷ cs) = live (next w c) cs
+
+abbrev pub born : List ℕ → World
+born ring = record { now = start ring; past = [] }
+
+-- the second at which the job held ends: its granted time (300 in a fault)
+abbrev pub due : World → ℕ
+due w = limit (scanOf (w .now)) (granted (w .past))
+
+-- the bytes that a fetch with this outcome yields, each with the job that it was accepted for
+abbrev pub got : World → Outcome → List Tagged
+got w o = take (countIn (o .values)) (waiting (w .past))
