@@ -59,15 +59,18 @@ busy-fit Feed.Loaded e = refl
 busy-fit Feed.Busy e = refl
 busy-fit Feed.Erred e = absurd (false≢true e)
 
--- a feeder that is not Erred has its path free, and may stand as it is told, with any FailureCode
-pub refit : (x : Feed) (why : Failure) (f : Feeder) → stuck (f .state) ≡ false → FeederFit f → FeederFit (fails x why f)
-refit x why f e h = record { tray = h .tray; path = h .path; jam = vacuous (on (f .path)) (stuck x) (tollens (on (f .path)) (stuck (f .state)) (h .jam) e) }
+-- a feeder that is not Erred has its path free; one with its path free may stand as it is told
+pub free-path : (f : Feeder) → stuck (f .state) ≡ false → FeederFit f → on (f .path) ≡ false
+free-path f e h = tollens (on (f .path)) (stuck (f .state)) (h .jam) e
+
+pub refit : (x : Feed) (why : Failure) (f : Feeder) → on (f .path) ≡ false → FeederFit f → FeederFit (fails x why f)
+refit x why f e h = record { tray = h .tray; path = h .path; jam = vacuous (on (f .path)) (stuck x) e }
 
 erred-fit : (why : Failure) (f : Feeder) → FeederFit f → FeederFit (fails Feed.Erred why f)
 erred-fit why f h = record { tray = h .tray; path = h .path; jam = implied (on (f .path)) true refl }
 
 freed-fit : (f : Feeder) → FeederFit f → FeederFit (freed f)
-freed-fit f h = choice FeederFit (busy (f .state)) (λ b. refit Feed.Unloaded (f .failure) f (busy-fit (f .state) b) h) (λ _. h)
+freed-fit f h = choice FeederFit (busy (f .state)) (λ b. refit Feed.Unloaded (f .failure) f (free-path f (busy-fit (f .state) b) h) h) (λ _. h)
 
 freed-free : (f : Feeder) → busy (freed f .state) ≡ false
 freed-free f = choice (λ (y : Feeder). busy (y .state) ≡ false) (busy (f .state)) (λ _. refl) (λ e. e)
@@ -144,7 +147,7 @@ source-of true f c h = (refl, h)
 source-of false f c h = h
 
 taken-fit : (u : Bool) (f : Feeder) → (u && stuck (f .state)) ≡ false → FeederFit f → FeederFit (cond u (taken f) f)
-taken-fit true f e h = refit Feed.Busy (f .failure) f e h
+taken-fit true f e h = refit Feed.Busy (f .failure) f (free-path f e h) h
 taken-fit false f e h = h
 
 begun-sound : (r : Record) (n : ℕ) → Common r n → Holding (r .job) (r .job .granted .seconds) → jamStops (r .settings .feeder) (r .feeder) ≡ false

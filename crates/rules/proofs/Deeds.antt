@@ -1,0 +1,256 @@
+-- What a call does to a sound box, in ten kinds. Soundness, time, pictures and ends each go by these and not by the calls.
+use Prim.Native.Nat.{ℕ, _+_, _-_, _≤_}
+use mathlib.Core.Path.{_≡_, refl, sym, _∙_, ap, subst}
+use mathlib.Core.Bool.{Bool, true, false, not, _&&_, _||_, cond, true≢false, false≢true}
+use mathlib.Core.List.{List, [], _∷_}
+use mathlib.Core.Option.{none}
+use lib.Dec.{eqb, leb, ltb}
+use lib.ListN.{length, length-set}
+use lib.ListN.{set as setAt}
+use native.Mathlib.Omega.{arith}
+use borrow.Author.Tests.{ltb-false, eqb-true, leb-true, not-false}
+use Rattle.rules.specs.declared.Scan.{Scan}
+use Rattle.rules.specs.declared.Feed.{Feed}
+use Rattle.rules.specs.declared.Failure.{Failure}
+use Rattle.rules.specs.declared.Feeder.{Feeder}
+use Rattle.rules.specs.declared.Record.{Record}
+use Rattle.rules.specs.Record.{counted, endless, idle, pending, scanning, erred, busy, stuck, on, marked, granting}
+use Rattle.rules.specs.Ring.{next, put, wrap}
+use Rattle.rules.specs.Feeder.{fails, pathAt, trayAt, jammed, unloads, loads, ejects, resets}
+use Rattle.rules.specs.Moves.{withFeeder, settled, given, least, filled, faulted, emptied, stopAt, quietAt, feeds}
+use Rattle.rules.specs.Calls.{ScanCall, StartScan, Start, Stop, Abort, GetDestination, Fetch, GetState, GetSideInformation, FeederCall, Load, Eject, Reset, SetFeederMode, GetFeederState, GetFeederMode, Report, Bytes, SideEnded, Tray, Path, Tick, Call, scan, feeder, report, Reason, n713, numberOf, State, Values, nothing, Outcome, lent, to, refused, answer}
+use Rattle.rules.specs.Machine.{listed, sidesListed, scanRefusals, feederRefusals, reportRefusals, refusals, accepted, scanEffect, feederEffect, reportEffect, effect, step}
+use Rattle.rules.specs.Watch.{scanOf, countIn, timeIn, sign, ticks, brought}
+use Rattle.rules.proofs.Choice.{choice, clash, or-l, or-r, and-l, and-r, vacuous, tollens}
+use Rattle.rules.proofs.Sound.{FeederFit, Sound, idle-none}
+use Rattle.rules.proofs.Cases.{pathed-cases}
+use Rattle.rules.proofs.Keeps.{free-path, refit, jammed-fit, refeed, ended-sound, ticked-sound, fetched-sound, filled-sound, sideEnded-sound, free-unless, jams-sound, resting, stopped-sound, settled-fit, started-sound, given-rests, given-common}
+use Rattle.rules.proofs.RingLaws.{length-put}
+use Rattle.rules.proofs.Answers.{nonzero, Clear, by-step, Good, plain}
+
+-- an outcome that leaves all but the feeder as it was
+abbrev beside : ℕ → Values → Feeder → List ℕ → State → Outcome
+beside n v f reply s = record { number = n; values = v; state = to (withFeeder f (s .box)) s; reply = reply }
+
+-- the feeder Busy or not as before, and fit; no sign of life, no Tick, nothing granted, fetched or put in
+pub record Aside (s : State) (c : Call) (f : Feeder) (o : Outcome) : Type 0 where
+  pub free : busy (f .state) ≡ busy (s .box .feeder .state)
+  pub fit : FeederFit f
+  pub silent : sign c (scanOf s) o ≡ false
+  pub still : ticks c ≡ false
+  pub untimed : timeIn (o .values) ≡ none
+  pub uncounted : countIn (o .values) ≡ 0
+  pub dry : brought c o ≡ []
+
+pub data Deed (s : State) : Call → Outcome → Type 0 where
+  aside : {c : Call} (n : ℕ) (v : Values) (f : Feeder) (reply : List ℕ) → Aside s c f (beside n v f reply s)
+      → Deed s c (beside n v f reply s)
+  opens : {from count append asked : ℕ} → idle (scanOf s) ≡ true → Good (scanEffect (StartScan from count append asked) s .state)
+      → Deed s (scan (StartScan from count append asked)) (scanEffect (StartScan from count append asked) s)
+  starts : {j from count : ℕ} → idle (scanOf s) ≡ false → Good (scanEffect (Start j from count) s .state)
+      → Deed s (scan (Start j from count)) (scanEffect (Start j from count) s)
+  stops : {j : ℕ} → idle (scanOf s) ≡ false → j ≡ s .box .job .held → Good (scanEffect (Stop j) s .state)
+      → Deed s (scan (Stop j)) (scanEffect (Stop j) s)
+  aborts : {j : ℕ} → idle (scanOf s) ≡ false → j ≡ s .box .job .held → Good (scanEffect (Abort j) s .state)
+      → Deed s (scan (Abort j)) (scanEffect (Abort j) s)
+  fetches : {called : List ℕ} {most : ℕ} {reply : List ℕ} → idle (scanOf s) ≡ false → Good (scanEffect (Fetch called most reply) s .state)
+      → Deed s (scan (Fetch called most reply)) (scanEffect (Fetch called most reply) s)
+  fills : {bs : List ℕ} → scanning (scanOf s) ≡ true → s .box .ring .stored + length bs ≤ length (s .bytes)
+      → Good (reportEffect (Bytes bs) s .state) → Deed s (report (Bytes bs)) (reportEffect (Bytes bs) s)
+  sideEnds : scanning (scanOf s) ≡ true → Good (reportEffect SideEnded s .state) → Deed s (report SideEnded) (reportEffect SideEnded s)
+  jams : {v : ℕ} → feeds (s .box) ≡ true
+      → Good (to (faulted (emptied (stopAt 0 (quietAt 0 (withFeeder (jammed (s .box .feeder)) (s .box)))))) s)
+      → Deed s (report (Path v))
+      (accepted nothing (faulted (emptied (stopAt 0 (quietAt 0 (withFeeder (jammed (s .box .feeder)) (s .box)))))) s (report (Path v)))
+  second : Good (reportEffect Tick s .state) → Deed s (report Tick) (reportEffect Tick s)
+
+scans-on : (x : Scan) → (scanning x && erred x) ≡ false
+scans-on Scan.Idle = refl
+scans-on Scan.Pending = refl
+scans-on Scan.Scanning = refl
+scans-on Scan.Finishing = refl
+scans-on Scan.Erred = refl
+
+module _ (s : State) (h : Good s) where
+  -- ---- a refused call that leaves the feeder so, if it is no Tick
+  module _ (n : Reason) (f : Feeder) (b : busy (f .state) ≡ busy (s .box .feeder .state)) (i : FeederFit f) where
+    kept : (c : Call) → ticks c ≡ false → sign c (scanOf s) (refused n (withFeeder f (s .box)) s c) ≡ false
+        → Deed s c (refused n (withFeeder f (s .box)) s c)
+    kept c t q =
+        aside {c = c} (numberOf n) nothing f (lent c)
+        (record { free = b; fit = i; silent = q; still = t; untimed = refl; uncounted = refl; dry = rw (nonzero n) })
+
+    scan-kept : (c : ScanCall) → Deed s (scan c) (refused n (withFeeder f (s .box)) s (scan c))
+    scan-kept (StartScan from count append asked) = kept (scan (StartScan from count append asked)) refl (nonzero n)
+    scan-kept (Start j from count) = kept (scan (Start j from count)) refl (nonzero n)
+    scan-kept (Stop j) = kept (scan (Stop j)) refl refl
+    scan-kept (Abort j) = kept (scan (Abort j)) refl refl
+    scan-kept (GetDestination j) = kept (scan (GetDestination j)) refl refl
+    scan-kept (Fetch called most reply) = kept (scan (Fetch called most reply)) refl refl
+    scan-kept GetState = kept (scan GetState) refl refl
+    scan-kept GetSideInformation = kept (scan GetSideInformation) refl refl
+
+    report-kept : (c : Report) → ticks (report c) ≡ false → Deed s (report c) (refused n (withFeeder f (s .box)) s (report c))
+    report-kept (Bytes bs) t = kept (report (Bytes bs)) t (ap (λ (x : Bool). x && leb 1 (length bs)) (nonzero n))
+    report-kept SideEnded t = kept (report SideEnded) t (nonzero n)
+    report-kept (Tray v) t = kept (report (Tray v)) t refl
+    report-kept (Path v) t = kept (report (Path v)) t (scans-on (scanOf s))
+    report-kept Tick t = absurd (true≢false t)
+
+  unloading : busy (s .box .feeder .state) ≡ false → stuck (s .box .feeder .state) ≡ false → FeederFit (unloads (s .box .feeder))
+  unloading b e = refit Feed.Unloaded (s .box .feeder .failure) (s .box .feeder) (free-path (s .box .feeder) e (h .common .feeder)) (h .common .feeder)
+
+  -- a property of refusals and of accepted calls, from what they leave the feeder
+  by-deed : (c : Call)
+      → ((n : Reason) (f : Feeder) → busy (f .state) ≡ busy (s .box .feeder .state) → FeederFit f → Deed s c (refused n (withFeeder f (s .box)) s c))
+      → (Clear (refusals c s) → Deed s c (effect c s)) → Deed s c (step s c)
+  by-deed c refusal ok =
+      by-step (Deed s c) s c (λ n. refusal n (s .box .feeder) refl (h .common .feeder))
+      (λ j _ b e. refusal n713 (unloads (s .box .feeder)) (sym b) (unloading b e)) ok
+
+  -- ---- an accepted call that changes the feeder alone, or nothing
+  besides : (c : Call) (v : Values) (f : Feeder) → busy (f .state) ≡ busy (s .box .feeder .state) → FeederFit f
+      → sign c (scanOf s) (accepted v (withFeeder f (s .box)) s c) ≡ false → ticks c ≡ false → timeIn v ≡ none → countIn v ≡ 0
+      → brought c (accepted v (withFeeder f (s .box)) s c) ≡ [] → Deed s c (accepted v (withFeeder f (s .box)) s c)
+  besides c v f b i q t u k d =
+      aside {c = c} 0 v f (lent c) (record { free = b; fit = i; silent = q; still = t; untimed = u; uncounted = k; dry = d })
+
+  -- one that only reads
+  reads : (c : Call) (v : Values) → sign c (scanOf s) (accepted v (s .box) s c) ≡ false → ticks c ≡ false → timeIn v ≡ none → countIn v ≡ 0
+      → brought c (accepted v (s .box) s c) ≡ [] → Deed s c (accepted v (s .box) s c)
+  reads c v = besides c v (s .box .feeder) refl (h .common .feeder)
+
+  -- ---- scan calls
+  begins-well : (from count : ℕ) → sidesListed from count (s .box) ≡ true
+      → (settled from (s .box .settings .feeder) ≤ 1) × (counted count ≡ true)
+      × ((on (settled from (s .box .settings .feeder)) || leb count 1 || eqb count endless) ≡ true)
+  begins-well from count e =
+      let l = and-l (listed from && counted count) _ e in
+      (settled-fit from _ (and-l (listed from) _ l) (h .common .settings .feeder), and-r (listed from) _ l, and-r (listed from && counted count) _ e)
+
+  scan-done : (c : ScanCall) → Clear (scanRefusals c (s .box)) → Deed s (scan c) (scanEffect c s)
+  unfolding scanRefusals scanEffect given
+  scan-done (StartScan from count append asked) k =
+      let r = s .box in
+      let values = not-false _ (k .0) in
+      let w = begins-well from count (and-r (listed append) _ values) in
+      let i = not-false _ (k .1 .0) in
+      let m = settled-fit append (r .settings .append) (and-l (listed append) _ values) (h .common .settings .append) in
+      opens i
+      (started-sound (settled from (r .settings .feeder)) count (given (settled append (r .settings .append)) asked r) (length (s .bytes))
+      (granting asked .seconds) (given-common (settled append (r .settings .append)) asked r (length (s .bytes)) m (h .common)) (given-rests (settled append (r .settings .append)) asked r (idle-none (scanOf s) r i (h .phase)))
+      (w .0) (w .1) (w .2) (k .1 .1 .0))
+  scan-done (Start j from count) k =
+      let r = s .box in
+      let w = begins-well from count (not-false _ (k .0)) in
+      let q = resting (scanOf s) r (not-false _ (k .1 .1 .0)) (h .phase) in
+      starts (or-l _ _ (k .1 .0))
+      (started-sound (settled from (r .settings .feeder)) count r (length (s .bytes)) (q .0) (h .common) (q .1) (w .0) (w .1) (w .2) (k .1 .1 .1 .0))
+  scan-done (Stop j) k =
+      let i = or-l _ _ (k .0) in
+      stops i (eqb-true _ _ (not-false _ (or-r (idle (scanOf s)) _ (k .0)))) (stopped-sound (s .box) (length (s .bytes)) i h)
+  scan-done (Abort j) k =
+      aborts (or-l _ _ (k .0)) (eqb-true _ _ (not-false _ (or-r (idle (scanOf s)) _ (k .0)))) (ended-sound (s .box) (length (s .bytes)) (h .common))
+  scan-done (GetDestination j) k = reads (scan (GetDestination j)) _ refl refl refl refl refl
+  scan-done (Fetch called most reply) k =
+      let i = or-l _ _ (k .0) in
+      fetches i (fetched-sound (least (s .box .ring .stored) most (length reply)) (s .box) (length (s .bytes)) i (omega arith) h)
+  scan-done GetState k = reads (scan GetState) _ refl refl refl refl refl
+  scan-done GetSideInformation k = reads (scan GetSideInformation) _ refl refl refl refl refl
+
+  -- ---- feeder calls
+  resets-fit : FeederFit (resets (s .box .feeder))
+  resets-fit =
+      let f = s .box .feeder in
+      choice FeederFit (stuck (f .state) && eqb (f .path) 0)
+      (λ e. refit Feed.Unloaded Failure.None f (zero-off (f .path) (and-r (stuck (f .state)) _ e)) (h .common .feeder)) (λ _. h .common .feeder)
+    where
+      zero-off : (p : ℕ) → eqb p 0 ≡ true → on p ≡ false
+      zero-off p e = rw (eqb-true p 0 e)
+
+  resets-free : busy (s .box .feeder .state) ≡ false → busy (resets (s .box .feeder) .state) ≡ busy (s .box .feeder .state)
+  resets-free e =
+      choice (λ (f : Feeder). busy (f .state) ≡ busy (s .box .feeder .state)) (stuck (s .box .feeder .state) && eqb (s .box .feeder .path) 0)
+      (λ _. sym e) (λ _. refl)
+
+  ejects-fit : (v : ℕ) → stuck (s .box .feeder .state) ≡ false → FeederFit (ejects v (s .box .feeder))
+  ejects-fit v e =
+      let i = h .common .feeder in
+      record {
+        tray = choice (λ (x : ℕ). x ≤ 1) (eqb v 0) (λ _. i .tray) (λ _. omega arith);
+        path = i .path;
+        jam = vacuous (on (s .box .feeder .path)) false (free-path (s .box .feeder) e i);
+      }
+
+  feeder-done : (c : FeederCall) → Clear (feederRefusals c (s .box)) → Deed s (feeder c) (feederEffect c s)
+  unfolding feederRefusals feederEffect
+  feeder-done (Load j) k =
+      let f = s .box .feeder in
+      let i = refit Feed.Loaded (f .failure) f (free-path f (k .1 .1 .0) (h .common .feeder)) (h .common .feeder) in
+      besides (feeder (Load j)) nothing (loads f) (sym (k .1 .0)) i refl refl refl refl refl
+  feeder-done (Eject j v) k =
+      besides (feeder (Eject j v)) nothing (ejects v (s .box .feeder)) (sym (k .1 .1 .0)) (ejects-fit v (k .1 .1 .1 .0)) refl refl refl refl refl
+  feeder-done (Reset j) k =
+      besides (feeder (Reset j)) nothing (resets (s .box .feeder)) (resets-free (k .1 .0)) resets-fit refl refl refl refl refl
+  feeder-done (SetFeederMode j m) k = reads (feeder (SetFeederMode j m)) nothing refl refl refl refl refl
+  feeder-done GetFeederState k = reads (feeder GetFeederState) _ refl refl refl refl refl
+  feeder-done GetFeederMode k = reads (feeder GetFeederMode) _ refl refl refl refl refl
+
+  -- ---- reports
+  report-done : (c : Report) → Clear (reportRefusals c (s .box) (length (s .bytes))) → Deed s (report c) (reportEffect c s)
+  unfolding reportRefusals reportEffect
+  report-done (Bytes bs) k =
+      let n = length (s .bytes) in
+      let r = s .box in
+      let x = not-false _ (k .0) in
+      let l : r .ring .stored + length bs ≤ n = omega (arith, ltb-false (n - r .ring .stored) (length bs) (k .1 .0), h .common .ring .stored) in
+      fills x l (subst (Sound (filled (length bs) r)) (sym (length-put bs (s .bytes) _)) (filled-sound (length bs) r n x l h))
+  report-done SideEnded k =
+      let x = not-false _ (k .0) in
+      sideEnds x (sideEnded-sound (s .box) (length (s .bytes)) x h)
+  report-done (Tray v) k =
+      let i = h .common .feeder in
+      besides (report (Tray v)) nothing (trayAt v (s .box .feeder)) refl
+      (record { tray = leb-true v 1 (not-false _ (k .0)); path = i .path; jam = i .jam }) refl refl refl refl refl
+  report-done (Path v) k =
+      let f = s .box .feeder in
+      let i = h .common .feeder in
+      pathed-cases (λ (x : Record). Deed s (report (Path v)) (accepted nothing x s (report (Path v)))) (s .box) v
+      (λ e. jams e (jams-sound (s .box) (length (s .bytes)) e h))
+      (λ e. besides (report (Path v)) nothing (jammed f) (sym (free-unless (scanOf s) (s .box) e (h .phase))) (jammed-fit f i) (scans-on (scanOf s)) refl refl refl refl)
+      (besides (report (Path v)) nothing (pathAt 0 f) refl (record { tray = i .tray; path = omega arith; jam = refl }) (scans-on (scanOf s)) refl refl refl refl)
+  report-done Tick k = second (ticked-sound (s .box) (length (s .bytes)) h)
+
+  tick-is : step s (report Tick) ≡ effect (report Tick) s
+  unfolding refusals reportRefusals answer
+  tick-is = plain s (report Tick) h
+
+  report-deed : (c : Report) → Deed s (report c) (step s (report c))
+  unfolding refusals reportRefusals effect
+  report-deed (Bytes bs) = by-deed (report (Bytes bs)) (λ n f b i. report-kept n f b i (Bytes bs) refl) (report-done (Bytes bs))
+  report-deed SideEnded = by-deed (report SideEnded) (λ n f b i. report-kept n f b i SideEnded refl) (report-done SideEnded)
+  report-deed (Tray v) = by-deed (report (Tray v)) (λ n f b i. report-kept n f b i (Tray v) refl) (report-done (Tray v))
+  report-deed (Path v) = by-deed (report (Path v)) (λ n f b i. report-kept n f b i (Path v) refl) (report-done (Path v))
+  report-deed Tick = rw tick-is (report-done Tick tt)
+
+  pub deed : (c : Call) → Deed s c (step s c)
+  unfolding refusals effect
+  deed (scan c) = by-deed (scan c) (λ n f b i. scan-kept n f b i c) (scan-done c)
+  deed (feeder c) = by-deed (feeder c) (λ n f b i. kept n f b i (feeder c) refl refl) (feeder-done c)
+  deed (report c) = report-deed c
+
+-- every step keeps the box sound
+pub deed-sound : {s : State} {c : Call} {o : Outcome} → Good s → Deed s c o → Good (o .state)
+deed-sound {s} h (aside n v f reply a) = refeed (s .box) (length (s .bytes)) f (a .free) (a .fit) h
+deed-sound h (opens i g) = g
+deed-sound h (starts i g) = g
+deed-sound h (stops i e g) = g
+deed-sound h (aborts i e g) = g
+deed-sound h (fetches i g) = g
+deed-sound h (fills x l g) = g
+deed-sound h (sideEnds x g) = g
+deed-sound h (jams e g) = g
+deed-sound h (second g) = g
+
+pub step-sound : (s : State) (c : Call) → Good s → Good (step s c .state)
+step-sound s c h = deed-sound h (deed s h c)
