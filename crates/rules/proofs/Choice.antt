@@ -1,5 +1,7 @@
 -- Booleans, and what holds of a choice.
+use Prim.Native.Nat.{ℕ}
 use mathlib.Core.Path.{_≡_, refl, sym, _∙_, ap}
+use mathlib.Core.Option.{Option, none, some}
 use mathlib.Core.Bool.{Bool, true, false, not, _&&_, _||_, cond, Bool·beq, true≢false, false≢true}
 use Rattle.rules.specs.Record.{implies}
 
@@ -57,3 +59,8 @@ and-r false b e = absurd (false≢true e)
 pub and-not : (a b : Bool) → (a && b) ≡ false → a ≡ true → b ≡ false
 and-not true b h e = h
 and-not false b h e = absurd (false≢true e)
+
+-- something is there
+abbrev pub opened : Option ℕ → Bool
+opened none = false
+opened (some t) = true

@@ -20,7 +20,7 @@ use Rattle.rules.specs.Feeder.{fails, pathAt, trayAt, jammed, unloads, l
 use Rattle.rules.specs.Moves.{withFeeder, settled, given, least, filled, faulted, emptied, stopAt, quietAt, feeds}
 use Rattle.rules.specs.Calls.{ScanCall, StartScan, Start, Stop, Abort, GetDestination, Fetch, GetState, GetSideInformation, FeederCall, Load, Eject, Reset, SetFeederMode, GetFeederState, GetFeederMode, Report, Bytes, SideEnded, Tray, Path, Tick, Call, scan, feeder, report, Reason, n713, numberOf, State, Values, nothing, Outcome, lent, to, refused, answer}
 use Rattle.rules.specs.Machine.{listed, sidesListed, scanRefusals, feederRefusals, reportRefusals, refusals, accepted, scanEffect, feederEffect, reportEffect, effect, step}
-use Rattle.rules.specs.Watch.{scanOf, countIn, timeIn, sign, ticks, brought}
+use Rattle.rules.specs.Watch.{scanOf, countIn, bytesIn, timeIn, sign, ticks, brought}
 use Rattle.rules.proofs.Choice.{choice, clash, or-l, or-r, and-l, and-r, vacuous, tollens}
 use Rattle.rules.proofs.Sound.{FeederFit, Sound, idle-none}
 use Rattle.rules.proofs.Cases.{pathed-cases}
@@ -32,14 +32,19 @@ use Rattle.rules.proofs.Answers.{nonzero, Clear, by-step, Good, plain}
 abbrev beside : ℕ → Values → Feeder → List ℕ → State → Outcome
 beside n v f reply s = record { number = n; values = v; state = to (withFeeder f (s .box)) s; reply = reply }
 
--- the feeder Busy or not as before, and fit; no sign of life, no Tick, nothing granted, fetched or put in
+-- nothing granted, nothing fetched
+pub record Mute (v : Values) : Type 0 where
+  pub untimed : timeIn v ≡ none
+  pub uncounted : countIn v ≡ 0
+  pub unpictured : bytesIn v ≡ []
+
+-- the feeder Busy or not as before, and fit; no sign of life, no Tick, nothing put in
 pub record Aside (s : State) (c : Call) (f : Feeder) (o : Outcome) : Type 0 where
   pub free : busy (f .state) ≡ busy (s .box .feeder .state)
   pub fit : FeederFit f
   pub silent : sign c (scanOf s) o ≡ false
   pub still : ticks c ≡ false
-  pub untimed : timeIn (o .values) ≡ none
-  pub uncounted : countIn (o .values) ≡ 0
+  pub mute : Mute (o .values)
   pub dry : brought c o ≡ []
 
 pub data Deed (s : State) : Call → Outcome → Type 0 where
@@ -64,6 +69,9 @@ pub data Deed (s : State) : Call → Outcome → Type 0 where
       (accepted nothing (faulted (emptied (stopAt 0 (quietAt 0 (withFeeder (jammed (s .box .feeder)) (s .box)))))) s (report (Path v)))
   second : Good (reportEffect Tick s .state) → Deed s (report Tick) (reportEffect Tick s)
 
+nothing-mute : Mute nothing
+nothing-mute = record { untimed = refl; uncounted = refl; unpictured = refl }
+
 scans-on : (x : Scan) → (scanning x && erred x) ≡ false
 scans-on Scan.Idle = refl
 scans-on Scan.Pending = refl
@@ -78,7 +86,7 @@ module _ (s : State) (h : Good s) where
         → Deed s c (refused n (withFeeder f (s .box)) s c)
     kept c t q =
         aside {c = c} (numberOf n) nothing f (lent c)
-        (record { free = b; fit = i; silent = q; still = t; untimed = refl; uncounted = refl; dry = rw (nonzero n) })
+        (record { free = b; fit = i; silent = q; still = t; mute = nothing-mute; dry = rw (nonzero n) })
 
     scan-kept : (c : ScanCall) → Deed s (scan c) (refused n (withFeeder f (s .box)) s (scan c))
     scan-kept (StartScan from count append asked) = kept (scan (StartScan from count append asked)) refl (nonzero n)
@@ -110,13 +118,13 @@ module _ (s : State) (h : Good s) where
 
   -- ---- an accepted call that changes the feeder alone, or nothing
   besides : (c : Call) (v : Values) (f : Feeder) → busy (f .state) ≡ busy (s .box .feeder .state) → FeederFit f
-      → sign c (scanOf s) (accepted v (withFeeder f (s .box)) s c) ≡ false → ticks c ≡ false → timeIn v ≡ none → countIn v ≡ 0
+      → sign c (scanOf s) (accepted v (withFeeder f (s .box)) s c) ≡ false → ticks c ≡ false → Mute v
       → brought c (accepted v (withFeeder f (s .box)) s c) ≡ [] → Deed s c (accepted v (withFeeder f (s .box)) s c)
-  besides c v f b i q t u k d =
-      aside {c = c} 0 v f (lent c) (record { free = b; fit = i; silent = q; still = t; untimed = u; uncounted = k; dry = d })
+  besides c v f b i q t m d =
+      aside {c = c} 0 v f (lent c) (record { free = b; fit = i; silent = q; still = t; mute = m; dry = d })
 
   -- one that only reads
-  reads : (c : Call) (v : Values) → sign c (scanOf s) (accepted v (s .box) s c) ≡ false → ticks c ≡ false → timeIn v ≡ none → countIn v ≡ 0
+  reads : (c : Call) (v : Values) → sign c (scanOf s) (accepted v (s .box) s c) ≡ false → ticks c ≡ false → Mute v
       → brought c (accepted v (s .box) s c) ≡ [] → Deed s c (accepted v (s .box) s c)
   reads c v = besides c v (s .box .feeder) refl (h .common .feeder)
 
@@ -151,12 +159,12 @@ module _ (s : State) (h : Good s) where
       stops i (eqb-true _ _ (not-false _ (or-r (idle (scanOf s)) _ (k .0)))) (stopped-sound (s .box) (length (s .bytes)) i h)
   scan-done (Abort j) k =
       aborts (or-l _ _ (k .0)) (eqb-true _ _ (not-false _ (or-r (idle (scanOf s)) _ (k .0)))) (ended-sound (s .box) (length (s .bytes)) (h .common))
-  scan-done (GetDestination j) k = reads (scan (GetDestination j)) _ refl refl refl refl refl
+  scan-done (GetDestination j) k = reads (scan (GetDestination j)) _ refl refl (record { untimed = refl; uncounted = refl; unpictured = refl }) refl
   scan-done (Fetch called most reply) k =
       let i = or-l _ _ (k .0) in
       fetches i (fetched-sound (least (s .box .ring .stored) most (length reply)) (s .box) (length (s .bytes)) i (omega arith) h)
-  scan-done GetState k = reads (scan GetState) _ refl refl refl refl refl
-  scan-done GetSideInformation k = reads (scan GetSideInformation) _ refl refl refl refl refl
+  scan-done GetState k = reads (scan GetState) _ refl refl (record { untimed = refl; uncounted = refl; unpictured = refl }) refl
+  scan-done GetSideInformation k = reads (scan GetSideInformation) _ refl refl (record { untimed = refl; uncounted = refl; unpictured = refl }) refl
 
   -- ---- feeder calls
   resets-fit : FeederFit (resets (s .box .feeder))
@@ -187,14 +195,14 @@ module _ (s : State) (h : Good s) where
   feeder-done (Load j) k =
       let f = s .box .feeder in
       let i = refit Feed.Loaded (f .failure) f (free-path f (k .1 .1 .0) (h .common .feeder)) (h .common .feeder) in
-      besides (feeder (Load j)) nothing (loads f) (sym (k .1 .0)) i refl refl refl refl refl
+      besides (feeder (Load j)) nothing (loads f) (sym (k .1 .0)) i refl refl nothing-mute refl
   feeder-done (Eject j v) k =
-      besides (feeder (Eject j v)) nothing (ejects v (s .box .feeder)) (sym (k .1 .1 .0)) (ejects-fit v (k .1 .1 .1 .0)) refl refl refl refl refl
+      besides (feeder (Eject j v)) nothing (ejects v (s .box .feeder)) (sym (k .1 .1 .0)) (ejects-fit v (k .1 .1 .1 .0)) refl refl nothing-mute refl
   feeder-done (Reset j) k =
-      besides (feeder (Reset j)) nothing (resets (s .box .feeder)) (resets-free (k .1 .0)) resets-fit refl refl refl refl refl
-  feeder-done (SetFeederMode j m) k = reads (feeder (SetFeederMode j m)) nothing refl refl refl refl refl
-  feeder-done GetFeederState k = reads (feeder GetFeederState) _ refl refl refl refl refl
-  feeder-done GetFeederMode k = reads (feeder GetFeederMode) _ refl refl refl refl refl
+      besides (feeder (Reset j)) nothing (resets (s .box .feeder)) (resets-free (k .1 .0)) resets-fit refl refl nothing-mute refl
+  feeder-done (SetFeederMode j m) k = reads (feeder (SetFeederMode j m)) nothing refl refl nothing-mute refl
+  feeder-done GetFeederState k = reads (feeder GetFeederState) _ refl refl (record { untimed = refl; uncounted = refl; unpictured = refl }) refl
+  feeder-done GetFeederMode k = reads (feeder GetFeederMode) _ refl refl (record { untimed = refl; uncounted = refl; unpictured = refl }) refl
 
   -- ---- reports
   report-done : (c : Report) → Clear (reportRefusals c (s .box) (length (s .bytes))) → Deed s (report c) (reportEffect c s)
@@ -211,17 +219,17 @@ module _ (s : State) (h : Good s) where
   report-done (Tray v) k =
       let i = h .common .feeder in
       besides (report (Tray v)) nothing (trayAt v (s .box .feeder)) refl
-      (record { tray = leb-true v 1 (not-false _ (k .0)); path = i .path; jam = i .jam }) refl refl refl refl refl
+      (record { tray = leb-true v 1 (not-false _ (k .0)); path = i .path; jam = i .jam }) refl refl nothing-mute refl
   report-done (Path v) k =
       let f = s .box .feeder in
       let i = h .common .feeder in
       pathed-cases (λ (x : Record). Deed s (report (Path v)) (accepted nothing x s (report (Path v)))) (s .box) v
       (λ e. jams e (jams-sound (s .box) (length (s .bytes)) e h))
-      (λ e. besides (report (Path v)) nothing (jammed f) (sym (free-unless (scanOf s) (s .box) e (h .phase))) (jammed-fit f i) (scans-on (scanOf s)) refl refl refl refl)
-      (besides (report (Path v)) nothing (pathAt 0 f) refl (record { tray = i .tray; path = omega arith; jam = refl }) (scans-on (scanOf s)) refl refl refl refl)
+      (λ e. besides (report (Path v)) nothing (jammed f) (sym (free-unless (scanOf s) (s .box) e (h .phase))) (jammed-fit f i) (scans-on (scanOf s)) refl nothing-mute refl)
+      (besides (report (Path v)) nothing (pathAt 0 f) refl (record { tray = i .tray; path = omega arith; jam = refl }) (scans-on (scanOf s)) refl nothing-mute refl)
   report-done Tick k = second (ticked-sound (s .box) (length (s .bytes)) h)
 
-  tick-is : step s (report Tick) ≡ effect (report Tick) s
+  pub tick-is : step s (report Tick) ≡ effect (report Tick) s
   unfolding refusals reportRefusals answer
   tick-is = plain s (report Tick) h
 

@@ -5,3 +5,5 @@ pub mod Keeps
 pub mod RingLaws
 pub mod Answers
 pub mod Deeds
+pub mod Time
+pub mod Ends

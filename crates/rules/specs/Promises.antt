@@ -70,8 +70,8 @@ pub record OnTime (w : World) (o : Outcome) : Type 0 where
 -- what may end the job held: that Tick, Stop in Pending or Erred, Abort, a drain step with a stop asked
 pub data EndsBy (w : World) (o : Outcome) : Call → Type 0 where
   time : suc (seconds (w .past)) ≡ due w → EndsBy w o (report Tick)
-  stop : (pending (scanOf (w .now)) || erred (scanOf (w .now))) ≡ true → EndsBy w o (scan (Stop (w .now .box .job .held)))
-  abort : EndsBy w o (scan (Abort (w .now .box .job .held)))
+  stop : {j : ℕ} → j ≡ w .now .box .job .held → (pending (scanOf (w .now)) || erred (scanOf (w .now))) ≡ true → EndsBy w o (scan (Stop j))
+  abort : {j : ℕ} → j ≡ w .now .box .job .held → EndsBy w o (scan (Abort j))
   lastFetch : {name reply bytes : List ℕ} {most k : ℕ} → on (w .now .box .job .stop) ≡ true → o .values ≡ picture k true bytes
       → EndsBy w o (scan (Fetch name most reply))
   sideEnd : on (w .now .box .job .stop) ≡ true → w .now .box .ring .stored ≡ 0 → EndsBy w o (report SideEnded)
