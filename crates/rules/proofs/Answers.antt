@@ -1,8 +1,8 @@
 -- How a list of refusals is walked: the first test that holds gives the answer. Demand 1 rests on this alone.
 use Prim.Native.Nat.{ℕ}
 use mathlib.Core.Path.{_≡_, refl, sym, _∙_, ap, subst}
-use mathlib.Core.Bool.{Bool, true, false, not, true≢false, false≢true}
-use mathlib.Core.Logic.{_↔_}
+use mathlib.Core.Bool.{Bool, true, false, not, _||_, true≢false, false≢true}
+use mathlib.Core.Logic.{_↔_, _≢_}
 use mathlib.Core.List.{List, [], _∷_}
 use lib.Dec.{eqb}
 use lib.ListN.{length}
@@ -13,6 +13,8 @@ use Rattle.rules.specs.Moves.{withFeeder}
 use Rattle.rules.specs.Calls.{StartScan, Start, Stop, Abort, GetDestination, Fetch, GetState, GetSideInformation, Load, Eject, Reset, SetFeederMode, GetFeederState, GetFeederMode, Bytes, SideEnded, Tray, Path, Tick, Call, scan, feeder, report, Reason, n604, n601, n712, n404, n501, n711, n713, n603, numberOf, named, State, nothing, Outcome, lent, Line, refuse, leaving, refused, answer}
 use Rattle.rules.specs.Machine.{scanRefusals, feederRefusals, reportRefusals, refusals, scanEffect, feederEffect, reportEffect, effect, lines, step}
 use Rattle.rules.specs.Promises.{First, none, refuses, passes, leaves, goes, OneOf, zero, here, there, Left, asItWas, byLoad, Refusal}
+use borrow.Author.Tests.{eqb-false}
+use Rattle.rules.proofs.Choice.{or-l, or-r}
 use Rattle.rules.proofs.Sound.{Sound, from-sound}
 
 pub nonzero : (n : Reason) → eqb (numberOf n) 0 ≡ false
@@ -73,9 +75,10 @@ unfolding step
 first-of s c = answers (lines c s) s c (effect c s) (accepts c s)
 
 pub in-order : (s : State) (c : Call) (n : ℕ) → (step s c .number ≡ n) ↔ First n (lines c s)
-in-order s c n =
-    (λ (e : step s c .number ≡ n). subst (λ (m : ℕ). First m (lines c s)) e (first-of s c),
-    λ (p : First n (lines c s)). first-one (first-of s c) p)
+in-order s c n = (
+  λ (e : step s c .number ≡ n). subst (λ (m : ℕ). First m (lines c s)) e (first-of s c),
+  λ (p : First n (lines c s)). first-one (first-of s c) p,
+)
 
 -- ---- the numbers named
 abbrev reasons : List Line → List Reason
@@ -186,3 +189,42 @@ Good s = Sound (s .box) (length (s .bytes))
 pub plain : (s : State) (c : Call) → Good s → step s c ≡ answer (refusals c s) s c (effect c s)
 unfolding step answer
 plain s c h = rw (from-sound (s .box) (length (s .bytes)) h)
+
+-- 604 is no number of any list, so a sound box never answers it
+mentions : List Reason → Bool
+mentions [] = false
+mentions (r ∷ rs) = eqb (numberOf r) 604 || mentions rs
+
+unmentioned : (c : Call) → mentions (named c) ≡ false
+unfolding mentions
+unmentioned (scan (StartScan from c append asked)) = refl
+unmentioned (scan (Start j from c)) = refl
+unmentioned (scan (Stop j)) = refl
+unmentioned (scan (Abort j)) = refl
+unmentioned (scan (GetDestination j)) = refl
+unmentioned (scan (Fetch called most reply)) = refl
+unmentioned (scan GetState) = refl
+unmentioned (scan GetSideInformation) = refl
+unmentioned (feeder (Load j)) = refl
+unmentioned (feeder (Eject j v)) = refl
+unmentioned (feeder (Reset j)) = refl
+unmentioned (feeder (SetFeederMode j m)) = refl
+unmentioned (feeder GetFeederState) = refl
+unmentioned (feeder GetFeederMode) = refl
+unmentioned (report (Bytes bs)) = refl
+unmentioned (report SideEnded) = refl
+unmentioned (report (Tray v)) = refl
+unmentioned (report (Path v)) = refl
+unmentioned (report Tick) = refl
+
+one-of-not : {n : ℕ} {rs : List Reason} → OneOf n rs → mentions rs ≡ false → eqb n 604 ≡ false
+unfolding mentions
+one-of-not zero e = refl
+one-of-not (here {r = r}) e = or-l (eqb (numberOf r) 604) _ e
+one-of-not (there {r = r} p) e = one-of-not p (or-r (eqb (numberOf r) 604) _ e)
+
+pub not-604 : (s : State) (c : Call) → Good s → step s c .number ≢ 604
+not-604 s c h e =
+    let p : First (step s c .number) (refusals c s) = rw (plain s c h) (answers (refusals c s) s c (effect c s) (accepts c s)) in
+    let o : OneOf (step s c .number) (named c) = subst (OneOf (step s c .number)) (as-named c s) (first-named p) in
+    eqb-false (step s c .number) 604 (one-of-not o (unmentioned c)) e

@@ -7,3 +7,5 @@ pub mod Answers
 pub mod Deeds
 pub mod Time
 pub mod Ends
+pub mod Pictures
+pub mod Theorems

@@ -223,15 +223,23 @@ idle-none Scan.Erred r i p = absurd (false≢true i)
 -- each list of points, test by test
 idle-holds : (s : Scan) (r : Record) (i : Bool) → idle s ≡ i → Phase s r → Holds (idlePoints s (r .job) (r .side))
 idle-holds s r true i p =
-    let q = idle-none s r i p in
-    (eq-beq _ _ (i ∙ sym (eq-eqb (r .job .held) 0 (q .job))),
-    (implied (idle s) _ (eq-eqb (r .side .number) 1 (q .number)),
-    (implied (idle s) _ (eq-eqb (r .side .count) 0 (q .count)),
-    (implied (idle s) _ (eq-eqb (r .job .quiet) 0 (q .quiet)),
-    (implied (idle s) _ (ap not (q .stop)), tt)))))
-idle-holds s r false i p =
-    (eq-beq _ _ (i ∙ sym (ne-eqb (r .job .held) 0 (some (holding s r i p .some)))),
-    (vacuous _ _ i, (vacuous _ _ i, (vacuous _ _ i, (vacuous _ _ i, tt)))))
+    let q = idle-none s r i p in (
+      eq-beq _ _ (i ∙ sym (eq-eqb (r .job .held) 0 (q .job))),
+      (
+        implied (idle s) _ (eq-eqb (r .side .number) 1 (q .number)),
+        (
+          implied (idle s) _ (eq-eqb (r .side .count) 0 (q .count)),
+          (
+            implied (idle s) _ (eq-eqb (r .job .quiet) 0 (q .quiet)),
+            (implied (idle s) _ (ap not (q .stop)), tt),
+          ),
+        ),
+      ),
+    )
+idle-holds s r false i p = (
+  eq-beq _ _ (i ∙ sym (ne-eqb (r .job .held) 0 (some (holding s r i p .some)))),
+  (vacuous _ _ i, (vacuous _ _ i, (vacuous _ _ i, (vacuous _ _ i, tt)))),
+)
 
 held-holds : (s : Scan) (r : Record) (i : Bool) → idle s ≡ i → SideFit (r .side .number) (r .side .count) → Phase s r
     → Holds (heldPoints s (r .job) (r .side))
@@ -239,13 +247,22 @@ held-holds s r true i h p =
     let v = ap not i in
     (le-leb _ _ (h .number), (h .count, (vacuous _ _ v, (vacuous _ _ v, (vacuous _ _ v, (vacuous _ _ v, tt))))))
 held-holds s r false i h p =
-    let q = holding s r i p in
-    (le-leb _ _ (h .number),
-    (h .count,
-    (implied (not (idle s)) _ (eq-eqb _ _ (q .latest)),
-    (implied (not (idle s)) _ (le-leb _ _ (q .low)),
-    (implied (not (idle s)) _ (le-leb _ _ (q .high)),
-    (implied (not (idle s)) _ (lt-ltb _ _ (q .quiet)), tt))))))
+    let q = holding s r i p in (
+      le-leb _ _ (h .number),
+      (
+        h .count,
+        (
+          implied (not (idle s)) _ (eq-eqb _ _ (q .latest)),
+          (
+            implied (not (idle s)) _ (le-leb _ _ (q .low)),
+            (
+              implied (not (idle s)) _ (le-leb _ _ (q .high)),
+              (implied (not (idle s)) _ (lt-ltb _ _ (q .quiet)), tt),
+            ),
+          ),
+        ),
+      ),
+    )
 
 stored-holds : (s : Scan) (r : Record) → Phase s r
     → (implies (not (scanning s || finishing s)) (eqb (r .ring .stored) 0) ≡ true) × (implies (finishing s) (leb 1 (r .ring .stored)) ≡ true)
@@ -287,16 +304,32 @@ from-sound r n h =
     let s = r .scanner .state in
     let g = h .common in
     let w = stored-holds s r (h .phase) in
-    all (points r n)
-    (all (idlePoints s (r .job) (r .side)) (idle-holds s r (idle s) refl (h .phase)),
-    (all (heldPoints s (r .job) (r .side)) (held-holds s r (idle s) refl (g .side) (h .phase)),
-    (all (ringPoints s (r .ring) n)
-    (le-leb _ _ (g .ring .least), (le-leb _ _ (g .ring .most), (lt-ltb _ _ (g .ring .start), (le-leb _ _ (g .ring .stored), (w .0, (w .1, tt)))))),
-    (all (feederPoints s (r .feeder .state) (r .settings) (r .side)) (feeder-holds s r (h .phase)),
-    (all (markPoints s (r .settings) (r .job .stop) (r .feeder))
-    (le-leb _ _ (g .settings .feeder),
-    (le-leb _ _ (g .settings .append),
-    (le-leb _ _ (g .stop),
-    (le-leb _ _ (g .feeder .tray),
-    (le-leb _ _ (g .feeder .path), (g .feeder .jam, (stop-holds s r (h .phase), tt))))))),
-    tt)))))
+    all (points r n) (
+      all (idlePoints s (r .job) (r .side)) (idle-holds s r (idle s) refl (h .phase)),
+      (
+        all (heldPoints s (r .job) (r .side)) (held-holds s r (idle s) refl (g .side) (h .phase)),
+        (
+          all (ringPoints s (r .ring) n)
+              (le-leb _ _ (g .ring .least), (le-leb _ _ (g .ring .most), (lt-ltb _ _ (g .ring .start), (le-leb _ _ (g .ring .stored), (w .0, (w .1, tt)))))),
+          (
+            all (feederPoints s (r .feeder .state) (r .settings) (r .side)) (feeder-holds s r (h .phase)),
+            (
+              all (markPoints s (r .settings) (r .job .stop) (r .feeder)) (
+                le-leb _ _ (g .settings .feeder),
+                (
+                  le-leb _ _ (g .settings .append),
+                  (
+                    le-leb _ _ (g .stop),
+                    (
+                      le-leb _ _ (g .feeder .tray),
+                      (le-leb _ _ (g .feeder .path), (g .feeder .jam, (stop-holds s r (h .phase), tt))),
+                    ),
+                  ),
+                ),
+              ),
+              tt,
+            ),
+          ),
+        ),
+      ),
+    )

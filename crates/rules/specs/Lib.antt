@@ -5,7 +5,6 @@ pub mod Feeder
 pub mod Moves
 pub mod Calls
 pub mod Machine
-
 pub mod Watch
 pub mod Promises
 pub mod Table

@@ -4,11 +4,12 @@ use mathlib.Core.Path.{_≡_}
 use mathlib.Core.Bool.{Bool, true, false, _||_, cond}
 use mathlib.Core.List.{List, [], _∷_, _++_, map}
 use lib.Dec.{eqb}
+use lib.IntN.{ℤ, pos, negsuc}
 use lib.ListN.{length}
 use Rattle.rules.specs.declared.Scan.{Scan}
 use Rattle.rules.specs.declared.Failure.{Failure}
 use Rattle.rules.specs.declared.Record.{Record}
-use Rattle.rules.specs.Record.{mostRing, idle, pending, erred, on}
+use Rattle.rules.specs.Record.{mostSides, mostRing, idle, pending, erred, on}
 use Rattle.rules.specs.Feeder.{unloads}
 use Rattle.rules.specs.Moves.{withFeeder}
 use Rattle.rules.specs.Calls.{Stop, Abort, Fetch, Load, SideEnded, Tick, Call, scan, feeder, report, Reason, numberOf, State, Values, nothing, picture, Outcome, lent, Line, refuse, leaving, to}
@@ -50,6 +51,11 @@ pub record Refusal (s : State) (c : Call) (o : Outcome) : Type 0 where
   pub values : o .values ≡ nothing
   pub reply : o .reply ≡ lent c
   pub left : Left s c o
+
+-- −1 to 999, as people read SideCount
+abbrev pub Sides : ℤ → Type 0
+Sides (pos n) = n ≤ mostSides
+Sides (negsuc n) = n ≡ 0
 
 -- ---- demand 2: any box, and what it makes of a list of calls
 unfoldable pub runBy : (State → Call → Outcome) → State → List Call → Ran

@@ -185,6 +185,14 @@ live w (c ∷ cs) = live (next w c) cs
 abbrev pub born : List ℕ → World
 born ring = record { now = start ring; past = [] }
 
+abbrev pub lived : List ℕ → List Call → World
+lived ring cs = live (born ring) cs
+
+-- the outcomes that the watcher saw, oldest first, before others
+abbrev pub told : List Event → List Outcome → List Outcome
+told [] os = os
+told (e ∷ es) os = told es (e .outcome ∷ os)
+
 -- the second at which the job held ends: its granted time (300 in a fault)
 abbrev pub due : World → ℕ
 due w = limit (scanOf (w .now)) (granted (w .past))
