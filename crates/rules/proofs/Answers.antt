@@ -1,18 +1,19 @@
 -- How a list of refusals is walked: the first test that holds gives the answer. Demand 1 rests on this alone.
 use Prim.Native.Nat.{ℕ}
 use mathlib.Core.Path.{_≡_, refl, sym, _∙_, ap, subst}
-use mathlib.Core.Bool.{Bool, true, false, not, _||_, true≢false, false≢true}
+use mathlib.Core.Bool.{Bool, true, false, _||_, true≢false}
 use mathlib.Core.Logic.{_↔_, _≢_}
 use mathlib.Core.List.{List, [], _∷_}
 use lib.Dec.{eqb}
 use lib.ListN.{length}
-use Rattle.rules.specs.declared.Record.{Record}
-use Rattle.rules.specs.Record.{sound, busy, stuck}
+use Rattle.rules.specs.Record.{busy, stuck}
 use Rattle.rules.specs.Feeder.{unloads}
 use Rattle.rules.specs.Moves.{withFeeder}
-use Rattle.rules.specs.Calls.{StartScan, Start, Stop, Abort, GetDestination, Fetch, GetState, GetSideInformation, Load, Eject, Reset, SetFeederMode, GetFeederState, GetFeederMode, Bytes, SideEnded, Tray, Path, Tick, Call, scan, feeder, report, Reason, n604, n601, n712, n404, n501, n711, n713, n603, numberOf, named, State, nothing, Outcome, lent, Line, refuse, leaving, refused, answer}
+use Rattle.rules.specs.Calls.{StartScan, Start, Stop, Abort, GetDestination, Fetch, GetState, GetSideInformation, Load, Eject, Reset, SetFeederMode}
+use Rattle.rules.specs.Calls.{GetFeederState, GetFeederMode, Bytes, SideEnded, Tray, Path, Tick, Call, scan, feeder, report, Reason, n604, n601, n712}
+use Rattle.rules.specs.Calls.{n404, n501, n711, n713, n603, numberOf, named, State, Outcome, Line, refuse, leaving, refused, answer}
 use Rattle.rules.specs.Machine.{scanRefusals, feederRefusals, reportRefusals, refusals, scanEffect, feederEffect, reportEffect, effect, lines, step}
-use Rattle.rules.specs.Promises.{First, none, refuses, passes, leaves, goes, OneOf, zero, here, there, Left, asItWas, byLoad, Refusal}
+use Rattle.rules.specs.Promises.{First, none, refuses, passes, leaves, goes, OneOf, zero, here, there, asItWas, byLoad, Refusal}
 use borrow.Author.Tests.{eqb-false}
 use Rattle.rules.proofs.Choice.{or-l, or-r}
 use Rattle.rules.proofs.Sound.{Sound, from-sound}

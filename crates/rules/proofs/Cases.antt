@@ -1,13 +1,14 @@
 -- Each branching move's cases, once: what holds in every case holds of the move.
-use Prim.Native.Nat.{ℕ, _+_, _-_}
+use Prim.Native.Nat.{ℕ, _+_}
 use mathlib.Core.Path.{_≡_}
-use mathlib.Core.Bool.{true, false, _&&_, _||_}
+use mathlib.Core.Bool.{true, false, _||_}
 use lib.Dec.{eqb, leb}
 use Rattle.rules.specs.declared.Scan.{Scan}
 use Rattle.rules.specs.declared.Record.{Record}
-use Rattle.rules.specs.Record.{idle, pending, finishing, erred, on}
+use Rattle.rules.specs.Record.{idle, pending, erred, on}
 use Rattle.rules.specs.Feeder.{jammed, pathAt}
-use Rattle.rules.specs.Moves.{withFeeder, standing, quietAt, stopAt, emptied, jamStops, sheetStops, begun, ended, timedOut, readied, started, stopped, numbered, faulted, waited, drained, moved, last, fetched, finished, sideEnded, feeds, jams, pathed, due, ticked}
+use Rattle.rules.specs.Moves.{withFeeder, standing, quietAt, stopAt, emptied, jamStops, sheetStops, begun, ended, timedOut, readied, started, stopped}
+use Rattle.rules.specs.Moves.{numbered, faulted, waited, drained, moved, last, fetched, finished, sideEnded, feeds, jams, pathed, due, ticked}
 use Rattle.rules.proofs.Choice.{choice}
 
 module _ (P : Record → Type 0) (r : Record) where

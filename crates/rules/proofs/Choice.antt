@@ -1,8 +1,8 @@
 -- Booleans, and what holds of a choice.
 use Prim.Native.Nat.{ℕ}
-use mathlib.Core.Path.{_≡_, refl, sym, _∙_, ap}
+use mathlib.Core.Path.{_≡_, refl, sym, _∙_}
 use mathlib.Core.Option.{Option, none, some}
-use mathlib.Core.Bool.{Bool, true, false, not, _&&_, _||_, cond, Bool·beq, true≢false, false≢true}
+use mathlib.Core.Bool.{Bool, true, false, _&&_, _||_, cond, Bool·beq, true≢false, false≢true}
 use Rattle.rules.specs.Record.{implies}
 
 -- a choice has a property where both of its sides have it

@@ -1,12 +1,11 @@
 -- What a call does to a sound box, in ten kinds. Soundness, time, pictures and ends each go by these and not by the calls.
 use Prim.Native.Nat.{ℕ, _+_, _-_, _≤_}
-use mathlib.Core.Path.{_≡_, refl, sym, _∙_, ap, subst}
-use mathlib.Core.Bool.{Bool, true, false, not, _&&_, _||_, cond, true≢false, false≢true}
-use mathlib.Core.List.{List, [], _∷_}
+use mathlib.Core.Path.{_≡_, refl, sym, ap, subst}
+use mathlib.Core.Bool.{Bool, true, false, _&&_, _||_, true≢false}
+use mathlib.Core.List.{List, []}
 use mathlib.Core.Option.{none}
-use lib.Dec.{eqb, leb, ltb}
-use lib.ListN.{length, length-set}
-use lib.ListN.{set as setAt}
+use lib.Dec.{eqb, leb}
+use lib.ListN.{length}
 use native.Mathlib.Omega.{arith}
 use borrow.Author.Tests.{ltb-false, eqb-true, leb-true, not-false}
 use Rattle.rules.specs.declared.Scan.{Scan}
@@ -14,17 +13,20 @@ use Rattle.rules.specs.declared.Feed.{Feed}
 use Rattle.rules.specs.declared.Failure.{Failure}
 use Rattle.rules.specs.declared.Feeder.{Feeder}
 use Rattle.rules.specs.declared.Record.{Record}
-use Rattle.rules.specs.Record.{counted, endless, idle, pending, scanning, erred, busy, stuck, on, marked, granting}
-use Rattle.rules.specs.Ring.{next, put, wrap}
-use Rattle.rules.specs.Feeder.{fails, pathAt, trayAt, jammed, unloads, loads, ejects, resets}
+use Rattle.rules.specs.Record.{counted, endless, idle, scanning, erred, busy, stuck, on, granting}
+use Rattle.rules.specs.Feeder.{pathAt, trayAt, jammed, unloads, loads, ejects, resets}
 use Rattle.rules.specs.Moves.{withFeeder, settled, given, least, filled, faulted, emptied, stopAt, quietAt, feeds}
-use Rattle.rules.specs.Calls.{ScanCall, StartScan, Start, Stop, Abort, GetDestination, Fetch, GetState, GetSideInformation, FeederCall, Load, Eject, Reset, SetFeederMode, GetFeederState, GetFeederMode, Report, Bytes, SideEnded, Tray, Path, Tick, Call, scan, feeder, report, Reason, n713, numberOf, State, Values, nothing, Outcome, lent, to, refused, answer}
-use Rattle.rules.specs.Machine.{listed, sidesListed, scanRefusals, feederRefusals, reportRefusals, refusals, accepted, scanEffect, feederEffect, reportEffect, effect, step}
+use Rattle.rules.specs.Calls.{ScanCall, StartScan, Start, Stop, Abort, GetDestination, Fetch, GetState, GetSideInformation, FeederCall, Load, Eject}
+use Rattle.rules.specs.Calls.{Reset, SetFeederMode, GetFeederState, GetFeederMode, Report, Bytes, SideEnded, Tray, Path, Tick, Call, scan, feeder}
+use Rattle.rules.specs.Calls.{report, Reason, n713, numberOf, State, Values, nothing, Outcome, lent, to, refused, answer}
+use Rattle.rules.specs.Machine.{listed, sidesListed, scanRefusals, feederRefusals, reportRefusals, refusals, accepted, scanEffect, feederEffect}
+use Rattle.rules.specs.Machine.{reportEffect, effect, step}
 use Rattle.rules.specs.Watch.{scanOf, countIn, bytesIn, timeIn, sign, ticks, brought}
-use Rattle.rules.proofs.Choice.{choice, clash, or-l, or-r, and-l, and-r, vacuous, tollens}
+use Rattle.rules.proofs.Choice.{choice, or-l, or-r, and-l, and-r, vacuous}
 use Rattle.rules.proofs.Sound.{FeederFit, Sound, idle-none}
 use Rattle.rules.proofs.Cases.{pathed-cases}
-use Rattle.rules.proofs.Keeps.{free-path, refit, jammed-fit, refeed, ended-sound, ticked-sound, fetched-sound, filled-sound, sideEnded-sound, free-unless, jams-sound, resting, stopped-sound, settled-fit, started-sound, given-rests, given-common}
+use Rattle.rules.proofs.Keeps.{free-path, refit, jammed-fit, refeed, ended-sound, ticked-sound, fetched-sound, filled-sound, sideEnded-sound}
+use Rattle.rules.proofs.Keeps.{free-unless, jams-sound, resting, stopped-sound, settled-fit, started-sound, given-rests, given-common}
 use Rattle.rules.proofs.RingLaws.{length-put}
 use Rattle.rules.proofs.Answers.{nonzero, Clear, by-step, Good, plain}
 

@@ -1,31 +1,29 @@
 -- Demand 3, the end: when a held job ends, that nothing else ends one, and that nothing but a sign of life puts it off.
-use Prim.Native.Nat.{ℕ, suc, _+_, _-_, _≤_, _<_}
-use mathlib.Core.Path.{_≡_, refl, sym, _∙_, ap, ap₂, subst}
-use mathlib.Core.Bool.{Bool, true, false, _&&_, _||_, cond, true≢false, false≢true}
+use Prim.Native.Nat.{ℕ, suc, _+_, _≤_, _<_}
+use mathlib.Core.Path.{_≡_, refl, sym, _∙_, ap, ap₂}
+use mathlib.Core.Bool.{Bool, true, false, cond, false≢true}
 use mathlib.Core.List.{List, [], _∷_}
-use mathlib.Core.Option.{Option, none, some}
-use lib.Dec.{eqb, leb}
+use mathlib.Core.Option.{Option, none}
 use lib.ListN.{length}
 use native.Mathlib.Omega.{arith}
 use native.Mathlib.Nat.{add-zero}
 use borrow.Author.Tests.{leb-true, leb-false, eqb-true}
 use Rattle.rules.specs.declared.Scan.{Scan}
-use Rattle.rules.specs.declared.Failure.{Failure}
 use Rattle.rules.specs.declared.Record.{Record}
-use Rattle.rules.specs.Record.{idle, pending, scanning, erred, on, limit}
+use Rattle.rules.specs.Record.{idle, scanning, on, limit}
 use Rattle.rules.specs.Ring.{queue}
-use Rattle.rules.specs.Moves.{settled, given, readied, begun, released, drained, least, moved, last, filled, finished}
+use Rattle.rules.specs.Moves.{settled, given, readied, begun, released, drained, least, moved, filled, finished}
 use Rattle.rules.specs.Moves as moves
-use Rattle.rules.specs.Calls.{StartScan, Start, Stop, Abort, Fetch, Bytes, SideEnded, Path, Tick, Call, scan, report, State, Values, nothing, picture, Outcome, to}
+use Rattle.rules.specs.Calls.{Start, Stop, Fetch, SideEnded, Tick, Call, scan, report, State, Values, nothing, picture, Outcome, to}
 use Rattle.rules.specs.Machine.{accepted, scanEffect, reportEffect, effect, step}
 use Rattle.rules.specs.Watch.{scanOf, timeIn, sign, ticks, counting, seconds, orElse, granted, World, next, live, due}
 use Rattle.rules.specs.Promises.{OnTime, EndsBy, time, stop, abort, lastFetch, sideEnd, Fate, held, over, Silent, ticksIn, NotPutOff}
 use Rattle.rules.proofs.Choice.{clash, and-l, opened}
-use Rattle.rules.proofs.Sound.{Sound, Phase, holding}
+use Rattle.rules.proofs.Sound.{holding}
 use Rattle.rules.proofs.Cases.{started-cases, stopped-cases, drained-cases, fetched-cases, sideEnded-cases, ticked-cases}
 use Rattle.rules.proofs.Answers.{Good}
-use Rattle.rules.proofs.Deeds.{Aside, Deed, aside, opens, starts, stops, aborts, fetches, fills, sideEnds, jams, second, deed, tick-is, step-sound}
-use Rattle.rules.proofs.Time.{scans, Counted, alive, silent, Counts, deed-counts, Timely, next-timely}
+use Rattle.rules.proofs.Deeds.{Deed, aside, opens, starts, stops, aborts, fetches, fills, sideEnds, jams, second, deed, tick-is, step-sound}
+use Rattle.rules.proofs.Time.{scans, Counted, alive, silent, deed-counts, Timely, next-timely}
 
 pub is-idle : (x : Scan) → idle x ≡ true → x ≡ Scan.Idle
 is-idle Scan.Idle e = refl

@@ -1,27 +1,28 @@
 -- Each move keeps the record sound: a law for each.
 use Prim.Native.Nat.{ℕ, _+_, _-_, _≤_, _<_}
-use mathlib.Core.Path.{_≡_, refl, sym, _∙_, ap, subst}
+use mathlib.Core.Path.{_≡_, refl, sym, ap, subst}
 use mathlib.Core.Logic.{_≢_}
 use mathlib.Core.Bool.{Bool, true, false, not, _&&_, _||_, cond, true≢false, false≢true}
 use lib.Dec.{eqb, leb, ltb}
 use native.Mathlib.Omega.{arith}
-use borrow.Author.Tests.{ltb-true, ltb-false, leb-true, leb-false, eqb-true, eqb-false, le-leb, not-false}
+use borrow.Author.Tests.{ltb-true, ltb-false, leb-true, leb-false, eqb-true, eqb-false, le-leb}
 use Rattle.rules.specs.declared.Scan.{Scan}
 use Rattle.rules.specs.declared.Feed.{Feed}
 use Rattle.rules.specs.declared.Failure.{Failure}
 use Rattle.rules.specs.declared.Granted.{Granted}
-use Rattle.rules.specs.declared.Job.{Job}
-use Rattle.rules.specs.declared.Settings.{Settings}
 use Rattle.rules.specs.declared.Feeder.{Feeder}
 use Rattle.rules.specs.declared.Record.{Record}
-use Rattle.rules.specs.Record.{greatest, endless, leastTime, mostTime, lastSide, mostSides, idle, pending, scanning, finishing, erred, busy, stuck, on, implies, granting, limit, counted}
+use Rattle.rules.specs.Record.{greatest, endless, leastTime, mostTime, lastSide, mostSides, idle, pending, scanning, finishing, erred, busy, stuck, on}
+use Rattle.rules.specs.Record.{granting, limit, counted}
 use Rattle.rules.specs.Ring.{wrap}
 use Rattle.rules.specs.Feeder.{fails, taken, freed, late, jammed}
-use Rattle.rules.specs.Moves.{withFeeder, standing, quietAt, stopAt, emptied, jamStops, begun, released, ended, timedOut, settled, storedSides, nextJob, given, readied, started, stopped, numbered, faulted, waited, drained, moved, last, fetched, filled, fallen, finished, sideEnded, feeds, pathed, due, ticked}
+use Rattle.rules.specs.Moves.{withFeeder, quietAt, stopAt, emptied, jamStops, begun, released, ended, timedOut, settled, nextJob, given, readied}
+use Rattle.rules.specs.Moves.{started, stopped, numbered, faulted, drained, moved, last, fetched, filled, fallen, finished, sideEnded, feeds, due}
+use Rattle.rules.specs.Moves.{ticked}
 use Rattle.rules.specs.Machine.{listed}
 use Rattle.rules.proofs.Choice.{choice, implied, vacuous, tollens, and-l, and-not}
-use Rattle.rules.proofs.Sound.{RingFit, SideFit, SettingsFit, FeederFit, Common, Held, Holding, Source, Glass, Nobody, Resting, Reading, Draining, PhaseAt, Phase, Sound, idle-none, holding}
-use Rattle.rules.proofs.Cases.{started-cases, stopped-cases, drained-cases, fetched-cases, sideEnded-cases, pathed-cases, ticked-cases}
+use Rattle.rules.proofs.Sound.{RingFit, FeederFit, Common, Held, Holding, Source, Glass, Resting, Reading, PhaseAt, Phase, Sound}
+use Rattle.rules.proofs.Cases.{started-cases, stopped-cases, drained-cases, fetched-cases, sideEnded-cases, ticked-cases}
 
 -- ---- the facts of the state at hand
 abbrev Reads : Record → Type 0

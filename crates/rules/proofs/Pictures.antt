@@ -1,7 +1,7 @@
 -- Demand 3, the pictures: the watcher's tagged queue agrees with the ring, and holds the present job's bytes alone.
-use Prim.Native.Nat.{ℕ, zero, suc, _+_, _-_, _≤_, _<_}
+use Prim.Native.Nat.{ℕ, zero, suc, _<_}
 use mathlib.Core.Path.{_≡_, refl, sym, _∙_, ap, ap₂, subst}
-use mathlib.Core.Bool.{Bool, true, false, _&&_, _||_, cond, true≢false, false≢true}
+use mathlib.Core.Bool.{Bool, true, false, true≢false, false≢true}
 use mathlib.Core.List.{List, [], _∷_, _++_, map, append-assoc, append-nil, map-append}
 use mathlib.Core.Option.{Option, none, some}
 use lib.ListN.{length, take, drop, take-append-drop}
@@ -10,20 +10,20 @@ use native.Mathlib.Omega.{arith}
 use Rattle.rules.specs.declared.Scan.{Scan}
 use Rattle.rules.specs.declared.Ring.{Ring as RingPart}
 use Rattle.rules.specs.declared.Record.{Record}
-use Rattle.rules.specs.Record.{idle, scanning, erred, on, granting}
-use Rattle.rules.specs.Ring.{wrap, queue}
+use Rattle.rules.specs.Record.{idle, granting}
+use Rattle.rules.specs.Ring.{queue}
 use Rattle.rules.specs.Moves.{settled, given, readied, begun, released, drained, least, moved, fetched, filled, finished}
-use Rattle.rules.specs.Calls.{StartScan, Start, Stop, Abort, Fetch, Bytes, SideEnded, Path, Tick, Call, scan, report, State, nothing, time, Outcome, to}
+use Rattle.rules.specs.Calls.{StartScan, Start, Stop, SideEnded, Tick, Call, scan, report, State, nothing, time, Outcome}
 use Rattle.rules.specs.Machine.{accepted, scanEffect, reportEffect, step}
 use Rattle.rules.specs.Watch as watch
 use Rattle.rules.specs.Watch.{scanOf, countIn, bytesIn, timeIn, plusOne, ordinal, Tagged, tag, byteOf, brought, wasted, waiting, World, next, live, got}
 use Rattle.rules.specs.Promises.{All, Yields, Ended, before, idles}
-use Rattle.rules.proofs.Choice.{clash, or-l, opened}
+use Rattle.rules.proofs.Choice.{clash, opened}
 use Rattle.rules.proofs.Sound.{Phase}
 use Rattle.rules.proofs.Cases.{started-cases, stopped-cases, drained-cases, fetched-cases, sideEnded-cases, ticked-cases}
 use Rattle.rules.proofs.RingLaws.{length-queue, put-queue, queue-drop, queue-take}
 use Rattle.rules.proofs.Answers.{Good}
-use Rattle.rules.proofs.Deeds.{Aside, Deed, aside, opens, starts, stops, aborts, fetches, fills, sideEnds, jams, second, deed, step-sound}
+use Rattle.rules.proofs.Deeds.{Deed, aside, opens, starts, stops, aborts, fetches, fills, sideEnds, jams, second, deed, step-sound}
 use Rattle.rules.proofs.Ends.{is-idle, deed-wakes, deed-untimed}
 
 -- the bytes that stand in the ring

@@ -5,7 +5,7 @@ use mathlib.Core.Path.{_≡_, refl, sym, _∙_, ap}
 use mathlib.Core.Logic.{_≢_}
 use mathlib.Core.Bool.{Bool, true, false, not, _&&_, _||_, Bool·beq, true≢false, false≢true}
 use mathlib.Core.List.{List, [], _∷_}
-use lib.Dec.{eqb, leb, ltb}
+use lib.Dec.{eqb, leb}
 use native.Mathlib.Omega.{arith}
 use borrow.Author.Tests.{ltb-true, leb-true, eqb-true, eqb-false, lt-ltb, le-leb, eq-eqb, ne-eqb, not-true}
 use Rattle.rules.specs.declared.Scan.{Scan}
@@ -15,7 +15,8 @@ use Rattle.rules.specs.declared.Settings.{Settings}
 use Rattle.rules.specs.declared.Feeder.{Feeder}
 use Rattle.rules.specs.declared.Ring.{Ring}
 use Rattle.rules.specs.declared.Record.{Record}
-use Rattle.rules.specs.Record.{leastTime, mostTime, faultTime, lastSide, mostRing, idle, scanning, finishing, busy, stuck, on, implies, limit, counted, everyAfter, every, idlePoints, heldPoints, ringPoints, feederPoints, markPoints, points, sound}
+use Rattle.rules.specs.Record.{leastTime, mostTime, faultTime, lastSide, mostRing, idle, scanning, finishing, busy, stuck, on, implies, limit, counted}
+use Rattle.rules.specs.Record.{everyAfter, every, idlePoints, heldPoints, ringPoints, feederPoints, markPoints, points, sound}
 use Rattle.rules.proofs.Choice.{beq-eq, eq-beq, implied, vacuous, tollens, and-l, and-r}
 
 -- ---- what holds in every scan state

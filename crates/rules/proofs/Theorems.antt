@@ -1,21 +1,21 @@
 -- What the rules promise, each theorem with its whole statement. The words are those of specs/Promises.antt.
 use Prim.Native.Nat.{ℕ, _-_, _≤_, _<_}
 use Prim.Native.String.{String}
-use mathlib.Core.Path.{_≡_, refl, sym, _∙_, ap, ap₂, subst}
+use mathlib.Core.Path.{_≡_, refl, sym, _∙_, ap, ap₂}
 use mathlib.Core.Logic.{_↔_, _≢_}
 use mathlib.Core.Bool.{Bool, true, false, _||_, cond, or-true, true≢false}
 use mathlib.Core.List.{List, [], _∷_, _++_}
 use lib.Dec.{eqb, leb, ltb}
-use lib.IntN.{ℤ, pos, negsuc}
+use lib.IntN.{pos, negsuc}
 use lib.ListN.{length}
 use native.Mathlib.Omega.{arith}
 use borrow.Author.Tests.{eqb-true, eq-eqb, le-leb, leb-true, ltb-false, ltb-true}
 use Rattle.rules.specs.Record.{greatest, endless, mostSides, signed, counted, idle, sound}
-use Rattle.rules.specs.Calls.{Tick, Call, report, Reason, n604, named, State, Outcome}
-use Rattle.rules.specs.Machine.{lines, refusals, step, Ran, run, start}
+use Rattle.rules.specs.Calls.{Tick, Call, report, n604, named, State, Outcome}
+use Rattle.rules.specs.Machine.{lines, step, Ran, run, start}
 use Rattle.rules.specs.Watch.{scanOf, Tagged, World, next, live, born, lived, told, got}
 use Rattle.rules.specs.Promises.{All, Ringed, First, OneOf, Refusal, Sides, runBy, OnTime, Fate, Silent, NotPutOff, Yields, Ended}
-use Rattle.rules.specs.Table.{Case, failing, starred, edges, slips, refusing, every604, readings, table, starred-hold, edges-hold, slips-hold, refusing-hold, every604-hold, readings-hold}
+use Rattle.rules.specs.Table.{Case, failing, table, starred-hold, edges-hold, slips-hold, refusing-hold, every604-hold, readings-hold}
 use Rattle.rules.proofs.Choice.{choice}
 use Rattle.rules.proofs.Sound.{to-sound, from-sound}
 use Rattle.rules.proofs.Answers as answers

@@ -1,29 +1,26 @@
 -- Demand 3, the second: over any list the seconds counted by the watcher are quiet, and the time answered is granted.
-use Prim.Native.Nat.{ℕ, suc, _+_, _-_, _≤_, _<_}
-use mathlib.Core.Path.{_≡_, refl, sym, _∙_, ap, ap₂}
-use mathlib.Core.Bool.{Bool, true, false, _&&_, _||_, cond, true≢false, false≢true}
+use Prim.Native.Nat.{ℕ, _-_}
+use mathlib.Core.Path.{_≡_, refl, sym, _∙_, ap}
+use mathlib.Core.Bool.{Bool, true, false, _&&_, cond, true≢false, false≢true}
 use mathlib.Core.List.{List, [], _∷_}
-use mathlib.Core.Option.{Option, none, some}
 use lib.Dec.{eqb, leb}
 use lib.ListN.{length}
 use native.Mathlib.Omega.{arith}
 use native.Mathlib.Numerals.{add-one}
-use borrow.Author.Tests.{leb-true, leb-false, eqb-true}
+use borrow.Author.Tests.{leb-false, eqb-true}
 use Rattle.rules.specs.declared.Scan.{Scan}
-use Rattle.rules.specs.declared.Failure.{Failure}
 use Rattle.rules.specs.declared.Record.{Record}
-use Rattle.rules.specs.Record.{idle, pending, scanning, finishing, erred, on, granting, limit}
+use Rattle.rules.specs.Record.{idle, scanning, finishing, on, granting}
 use Rattle.rules.specs.Moves as moves
-use Rattle.rules.specs.Moves.{settled, given, readied, started, begun, released, ended, numbered, drained, least, moved, last, fetched, filled, finished}
-use Rattle.rules.specs.Calls.{StartScan, Start, Stop, Abort, Fetch, Bytes, SideEnded, Path, Tick, Call, scan, report, State, nothing, time, Outcome}
-use Rattle.rules.specs.Machine.{accepted, scanEffect, reportEffect, effect, step}
-use Rattle.rules.specs.Watch.{scanOf, timeIn, countIn, sign, ticks, counting, seconds, orElse, granted, ordinal, World, next, live, due}
-use Rattle.rules.specs.Promises.{OnTime, Silent, ticksIn, NotPutOff}
+use Rattle.rules.specs.Moves.{settled, given, readied, begun, released, drained, least, moved, fetched, filled, finished}
+use Rattle.rules.specs.Calls.{StartScan, Start, Stop, Fetch, Bytes, SideEnded, Tick, Call, scan, report, State, nothing, time, Outcome}
+use Rattle.rules.specs.Machine.{accepted, scanEffect, reportEffect, step}
+use Rattle.rules.specs.Watch.{scanOf, timeIn, sign, ticks, counting, seconds, orElse, granted, World, next, live}
 use Rattle.rules.proofs.Choice.{clash, and-l}
-use Rattle.rules.proofs.Sound.{Phase, holding}
+use Rattle.rules.proofs.Sound.{Phase}
 use Rattle.rules.proofs.Cases.{started-cases, stopped-cases, drained-cases, fetched-cases, sideEnded-cases, ticked-cases}
 use Rattle.rules.proofs.Answers.{Good}
-use Rattle.rules.proofs.Deeds.{Aside, Deed, aside, opens, starts, stops, aborts, fetches, fills, sideEnds, jams, second, deed, step-sound}
+use Rattle.rules.proofs.Deeds.{Deed, aside, opens, starts, stops, aborts, fetches, fills, sideEnds, jams, second, deed, step-sound}
 
 -- granted is kept and, where a job is held afterwards, quiet is q
 record Keeps (q : ℕ) (r x : Record) : Type 0 where

@@ -20,12 +20,12 @@ trayAt v f = record { state = f .state; failure = f .failure; tray = v; path = f
 abbrev pub pathAt : ℕ → Feeder → Feeder
 pathAt v f = record { state = f .state; failure = f .failure; tray = f .tray; path = v }
 
--- tray empty; Unloaded with an empty tray
-abbrev pub trayEmpty : Feeder → Bool
-trayEmpty f = eqb (f .tray) 0
+-- no sheet for Load: tray empty. No sheet for a side's beginning: Unloaded with an empty tray
+abbrev pub loadless : Feeder → Bool
+loadless f = eqb (f .tray) 0
 
 abbrev pub sheetless : Feeder → Bool
-sheetless f = unloaded (f .state) && trayEmpty f
+sheetless f = unloaded (f .state) && eqb (f .tray) 0
 
 -- a side begins: otherwise the feeder becomes Busy
 abbrev pub taken : Feeder → Feeder

@@ -4,13 +4,16 @@ use mathlib.Core.Bool.{Bool, true, false, not, _&&_, _||_}
 use mathlib.Core.List.{List, [], _∷_, _++_}
 use lib.Dec.{eqb, leb, ltb}
 use lib.ListN.{length, drop}
-use Rattle.rules.specs.declared.Granted.{Granted}
 use Rattle.rules.specs.declared.Record.{Record}
 use Rattle.rules.specs.Record.{endless, counted, idle, pending, scanning, erred, unloaded, busy, stuck, on, marked, granting, fresh, sound}
 use Rattle.rules.specs.Ring.{wrap, put, queue}
-use Rattle.rules.specs.Feeder.{trayAt, trayEmpty, unloads, loads, ejects, resets, simplex}
-use Rattle.rules.specs.Moves.{withFeeder, jamStops, sheetStops, ended, settled, given, started, stopped, name, scanLength, least, last, fetched, filled, sideEnded, pathed, ticked}
-use Rattle.rules.specs.Calls.{ScanCall, StartScan, Start, Stop, Abort, GetDestination, Fetch, GetState, GetSideInformation, FeederCall, Load, Eject, Reset, SetFeederMode, GetFeederState, GetFeederMode, Report, Bytes, SideEnded, Tray, Path, Tick, Call, scan, feeder, report, n604, n601, n712, n404, n501, n711, n713, n603, State, Values, nothing, time, destination, picture, state, sides, feeding, mode, stored, Outcome, lent, Line, refuse, leaving, to, answer}
+use Rattle.rules.specs.Feeder.{trayAt, loadless, unloads, loads, ejects, resets, simplex}
+use Rattle.rules.specs.Moves.{withFeeder, jamStops, sheetStops, ended, settled, given, started, stopped, name, scanLength, least, last, fetched, filled}
+use Rattle.rules.specs.Moves.{sideEnded, pathed, ticked}
+use Rattle.rules.specs.Calls.{ScanCall, StartScan, Start, Stop, Abort, GetDestination, Fetch, GetState, GetSideInformation, FeederCall, Load, Eject}
+use Rattle.rules.specs.Calls.{Reset, SetFeederMode, GetFeederState, GetFeederMode, Report, Bytes, SideEnded, Tray, Path, Tick, Call, scan, feeder}
+use Rattle.rules.specs.Calls.{report, n604, n601, n712, n404, n501, n711, n713, n603, State, Values, nothing, time, destination, picture, state, sides}
+use Rattle.rules.specs.Calls.{feeding, mode, stored, Outcome, lent, Line, refuse, leaving, to, answer}
 
 -- ---- tests
 -- 0, 1 or 2
@@ -66,7 +69,7 @@ feederRefusals (Load j) r =
     refuse n712 (notOurs j r)
     ∷ refuse n501 (busy (r .feeder .state))
     ∷ refuse n711 (stuck (r .feeder .state))
-    ∷ leaving n713 (trayEmpty (r .feeder)) (withFeeder (unloads (r .feeder)) r)
+    ∷ leaving n713 (loadless (r .feeder)) (withFeeder (unloads (r .feeder)) r)
     ∷ []
 feederRefusals (Eject j v) r =
     refuse n601 (not (listed v))

@@ -1,11 +1,10 @@
 -- The moves of the record, each under the paper's name. A number refused inside a drain step never becomes the call's own.
 use Prim.Native.Nat.{ℕ, zero, suc, _+_, _-_, _/_, _%_, _^_, min}
-use mathlib.Core.Bool.{Bool, not, _&&_, _||_, cond}
+use mathlib.Core.Bool.{Bool, _&&_, _||_, cond}
 use mathlib.Core.List.{List, [], _∷_, _++_}
 use lib.Dec.{eqb, leb}
 use Rattle.rules.specs.declared.Scan.{Scan}
 use Rattle.rules.specs.declared.Failure.{Failure}
-use Rattle.rules.specs.declared.Granted.{Granted}
 use Rattle.rules.specs.declared.Scanner.{Scanner}
 use Rattle.rules.specs.declared.Job.{Job}
 use Rattle.rules.specs.declared.Side.{Side}

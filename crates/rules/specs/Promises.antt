@@ -3,7 +3,6 @@ use Prim.Native.Nat.{ℕ, suc, _+_, _≤_, _<_}
 use mathlib.Core.Path.{_≡_}
 use mathlib.Core.Bool.{Bool, true, false, _||_, cond}
 use mathlib.Core.List.{List, [], _∷_, _++_, map}
-use lib.Dec.{eqb}
 use lib.IntN.{ℤ, pos, negsuc}
 use lib.ListN.{length}
 use Rattle.rules.specs.declared.Scan.{Scan}
@@ -12,9 +11,10 @@ use Rattle.rules.specs.declared.Record.{Record}
 use Rattle.rules.specs.Record.{mostSides, mostRing, idle, pending, erred, on}
 use Rattle.rules.specs.Feeder.{unloads}
 use Rattle.rules.specs.Moves.{withFeeder}
-use Rattle.rules.specs.Calls.{Stop, Abort, Fetch, Load, SideEnded, Tick, Call, scan, feeder, report, Reason, numberOf, State, Values, nothing, picture, Outcome, lent, Line, refuse, leaving, to}
+use Rattle.rules.specs.Calls.{Stop, Abort, Fetch, Load, SideEnded, Tick, Call, scan, feeder, report, Reason, numberOf, State, nothing, picture, Outcome}
+use Rattle.rules.specs.Calls.{lent, Line, refuse, leaving, to}
 use Rattle.rules.specs.Machine.{Ran, step}
-use Rattle.rules.specs.Watch.{scanOf, taken, bytesIn, countIn, sign, ticks, seconds, ordinal, Tagged, byteOf, accepted, World, next, due, got}
+use Rattle.rules.specs.Watch.{scanOf, bytesIn, countIn, sign, ticks, seconds, ordinal, Tagged, byteOf, accepted, World, next, due, got}
 
 -- every member of a list has a property
 abbrev pub All : {A : Type 0} → (A → Type 0) → List A → Type 0

@@ -1,5 +1,5 @@
 -- The paper's cases as one computed table, and its worked example. A case that fails is named by the check.
-use Prim.Native.Nat.{ℕ, zero, suc}
+use Prim.Native.Nat.{ℕ}
 use Prim.Native.String.{String}
 use mathlib.Core.Path.{_≡_, refl}
 use mathlib.Core.Bool.{Bool, true, false, cond}
@@ -13,9 +13,13 @@ use Rattle.rules.specs.declared.Failure.{Failure}
 use Rattle.rules.specs.declared.Failure.the-variants.{None, Jammed, Timeout}
 use Rattle.rules.specs.declared.Record.{Record}
 use Rattle.rules.specs.Record.{greatest, endless, fresh, sound}
-use Rattle.rules.specs.Moves.{withJob, withSide, withRing, standing, quietAt, stopAt, begun, released, given, readied, started, stopped, name, drained, moved, fetched, filled, finished, sideEnded, jams, pathed, ticked}
-use Rattle.rules.specs.Calls.{StartScan, Start, Stop, Abort, GetDestination, Fetch, GetState, GetSideInformation, Load, Eject, Reset, SetFeederMode, GetFeederState, GetFeederMode, Bytes, SideEnded, Tray, Path, Tick, Call, scan, feeder, report, State, Values, nothing, time, destination, picture, state, sides, feeding, mode, stored, Outcome, answer}
-use Rattle.rules.specs.Machine.{same, scanRefusals, feederRefusals, reportRefusals, refusals, scanEffect, feederEffect, reportEffect, effect, step, run, start}
+use Rattle.rules.specs.Moves.{withJob, withSide, quietAt, begun, released, given, readied, started, stopped, name, drained, moved, fetched, filled}
+use Rattle.rules.specs.Moves.{finished, sideEnded, jams, pathed, ticked}
+use Rattle.rules.specs.Calls.{StartScan, Start, Stop, Abort, GetDestination, Fetch, GetState, GetSideInformation, Load, Eject, Reset, SetFeederMode}
+use Rattle.rules.specs.Calls.{GetFeederState, GetFeederMode, Bytes, SideEnded, Tray, Path, Tick, Call, scan, feeder, report, State, Values, nothing}
+use Rattle.rules.specs.Calls.{time, destination, picture, state, sides, feeding, mode, stored, Outcome, answer}
+use Rattle.rules.specs.Machine.{same, scanRefusals, feederRefusals, reportRefusals, refusals, scanEffect, feederEffect, reportEffect, effect, step, run}
+use Rattle.rules.specs.Machine.{start}
 
 -- ---- a case: what it says, and whether the definitions agree
 pub record Case : Type 0 where

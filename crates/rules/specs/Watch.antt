@@ -8,7 +8,9 @@ use lib.Dec.{eqb, leb}
 use lib.ListN.{length, take, drop}
 use Rattle.rules.specs.declared.Scan.{Scan}
 use Rattle.rules.specs.Record.{usualTime, idle, scanning, erred, limit}
-use Rattle.rules.specs.Calls.{ScanCall, StartScan, Start, Stop, Abort, GetDestination, Fetch, GetState, GetSideInformation, Report, Bytes, SideEnded, Tray, Path, Tick, Call, scan, feeder, report, State, Values, nothing, time, destination, picture, state, sides, feeding, mode, stored, Outcome}
+use Rattle.rules.specs.Calls.{ScanCall, StartScan, Start, Stop, Abort, GetDestination, Fetch, GetState, GetSideInformation, Report, Bytes, SideEnded}
+use Rattle.rules.specs.Calls.{Tray, Path, Tick, Call, scan, feeder, report, State, Values, nothing, time, destination, picture, state, sides, feeding}
+use Rattle.rules.specs.Calls.{mode, stored, Outcome}
 use Rattle.rules.specs.Machine.{step, start}
 
 -- ---- what a call was, the scan state before it, and its outcome
