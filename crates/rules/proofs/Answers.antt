@@ -1,21 +1,27 @@
 -- How a list of refusals is walked: the first test that holds gives the answer. Demand 1 rests on this alone.
-use Prim.Native.Nat.{ℕ}
+use Prim.Native.Nat.{ℕ, _≤_, _<_}
 use mathlib.Core.Path.{_≡_, refl, sym, _∙_, ap, subst}
-use mathlib.Core.Bool.{Bool, true, false, _||_, true≢false}
 use mathlib.Core.Logic.{_↔_, _≢_}
+use mathlib.Core.Bool.{Bool, true, false, _&&_, true≢false}
 use mathlib.Core.List.{List, [], _∷_}
-use lib.Dec.{eqb}
+use mathlib.Core.Option.{Option, some}
+use lib.Dec.{leb, ltb, eqb}
 use lib.ListN.{length}
-use Rattle.rules.specs.Record.{busy, stuck}
+use native.Mathlib.Omega.{arith}
+use borrow.Author.Tests.{ltb-true, eqb-true, not-false}
+use Rattle.rules.specs.declared.Scan.{Scan}
+use Rattle.rules.specs.declared.Feeder.{Feeder}
+use Rattle.rules.specs.Record.{scanning, erred, idle, busy, stuck}
 use Rattle.rules.specs.Feeder.{unloads}
 use Rattle.rules.specs.Moves.{withFeeder}
-use Rattle.rules.specs.Calls.{StartScan, Start, Stop, Abort, GetDestination, Fetch, GetState, GetSideInformation, Load, Eject, Reset, SetFeederMode}
-use Rattle.rules.specs.Calls.{GetFeederState, GetFeederMode, Bytes, SideEnded, Tray, Path, Tick, Call, scan, feeder, report, Reason, n604, n601, n712}
-use Rattle.rules.specs.Calls.{n404, n501, n711, n713, n603, numberOf, named, State, Outcome, Line, refuse, leaving, refused, answer}
-use Rattle.rules.specs.Machine.{scanRefusals, feederRefusals, reportRefusals, refusals, scanEffect, feederEffect, reportEffect, effect, lines, step}
-use Rattle.rules.specs.Promises.{First, none, refuses, passes, leaves, goes, OneOf, zero, here, there, asItWas, byLoad, Refusal}
-use borrow.Author.Tests.{eqb-false}
-use Rattle.rules.proofs.Choice.{or-l, or-r}
+use Rattle.rules.specs.Calls.{rowOf, StartScan, Start, Stop, Abort, GetDestination, Fetch, GetState, GetSideInformation, Load, Eject, Reset}
+use Rattle.rules.specs.Calls.{SetFeederMode, GetFeederState, GetFeederMode, Bytes, SideEnded, Tray, Path, Tick, Call, scan, feeder, report, Reason}
+use Rattle.rules.specs.Calls.{n604, n601, n712, n404, n501, n711, n713, n603, numberOf, named, State, Outcome, Line, refuse, leaving, refused, answer}
+use Rattle.rules.specs.Machine.{notHeld, notOurs, scanRefusals, feederRefusals, reportRefusals, refusals, scanEffect, feederEffect, reportEffect}
+use Rattle.rules.specs.Machine.{effect, lines, step}
+use Rattle.rules.specs.Watch.{scanOf, taken, sign}
+use Rattle.rules.specs.Promises.{below, bears, First, noLine, refuses, passes, leaves, goes, OneOf, zero, here, there, asItWas, byLoad, Refusal}
+use Rattle.rules.proofs.Choice.{or-r, and-l, and-r}
 use Rattle.rules.proofs.Sound.{Sound, from-sound}
 
 pub nonzero : (n : Reason) → eqb (numberOf n) 0 ≡ false
@@ -30,7 +36,7 @@ nonzero n603 = refl
 
 -- ---- the first line that holds
 first-one : {m n : ℕ} {ls : List Line} → First m ls → First n ls → m ≡ n
-first-one none none = refl
+first-one noLine noLine = refl
 first-one (refuses e) (refuses f) = refl
 first-one (refuses e) (passes f q) = absurd (true≢false (sym e ∙ f))
 first-one (passes e p) (refuses f) = absurd (true≢false (sym f ∙ e))
@@ -42,7 +48,7 @@ first-one (goes e p) (goes f q) = first-one p q
 
 answers : (ls : List Line) (s : State) (c : Call) (o : Outcome) → o .number ≡ 0 → First (answer ls s c o .number) ls
 unfolding answer
-answers [] s c o e = rw e none
+answers [] s c o e = rw e noLine
 answers (refuse n true ∷ ls) s c o e = refuses refl
 answers (refuse n false ∷ ls) s c o e = passes refl (answers ls s c o e)
 answers (leaving n true r ∷ ls) s c o e = leaves refl
@@ -110,7 +116,7 @@ as-named (report (Path v)) s = refl
 as-named (report Tick) s = refl
 
 first-named : {n : ℕ} {ls : List Line} → First n ls → OneOf n (reasons ls)
-first-named none = zero
+first-named noLine = zero
 first-named (refuses e) = here
 first-named (passes e p) = there (first-named p)
 first-named (leaves e) = here
@@ -191,41 +197,113 @@ pub plain : (s : State) (c : Call) → Good s → step s c ≡ answer (refusals 
 unfolding step answer
 plain s c h = rw (from-sound (s .box) (length (s .bytes)) h)
 
--- 604 is no number of any list, so a sound box never answers it
-mentions : List Reason → Bool
-mentions [] = false
-mentions (r ∷ rs) = eqb (numberOf r) 604 || mentions rs
+-- ---- the lists stand in the order of the table, so 604 is in none of them
+pub table-order : (c : Call) → below 1 (named c) ≡ true
+table-order (scan (StartScan from c append asked)) = refl
+table-order (scan (Start j from c)) = refl
+table-order (scan (Stop j)) = refl
+table-order (scan (Abort j)) = refl
+table-order (scan (GetDestination j)) = refl
+table-order (scan (Fetch called most reply)) = refl
+table-order (scan GetState) = refl
+table-order (scan GetSideInformation) = refl
+table-order (feeder (Load j)) = refl
+table-order (feeder (Eject j v)) = refl
+table-order (feeder (Reset j)) = refl
+table-order (feeder (SetFeederMode j m)) = refl
+table-order (feeder GetFeederState) = refl
+table-order (feeder GetFeederMode) = refl
+table-order (report (Bytes bs)) = refl
+table-order (report SideEnded) = refl
+table-order (report (Tray v)) = refl
+table-order (report (Path v)) = refl
+table-order (report Tick) = refl
 
-unmentioned : (c : Call) → mentions (named c) ≡ false
-unfolding mentions
-unmentioned (scan (StartScan from c append asked)) = refl
-unmentioned (scan (Start j from c)) = refl
-unmentioned (scan (Stop j)) = refl
-unmentioned (scan (Abort j)) = refl
-unmentioned (scan (GetDestination j)) = refl
-unmentioned (scan (Fetch called most reply)) = refl
-unmentioned (scan GetState) = refl
-unmentioned (scan GetSideInformation) = refl
-unmentioned (feeder (Load j)) = refl
-unmentioned (feeder (Eject j v)) = refl
-unmentioned (feeder (Reset j)) = refl
-unmentioned (feeder (SetFeederMode j m)) = refl
-unmentioned (feeder GetFeederState) = refl
-unmentioned (feeder GetFeederMode) = refl
-unmentioned (report (Bytes bs)) = refl
-unmentioned (report SideEnded) = refl
-unmentioned (report (Tray v)) = refl
-unmentioned (report (Path v)) = refl
-unmentioned (report Tick) = refl
+lower : (r : Reason) (n : ℕ) → 1 ≤ n → ltb n (rowOf r) ≡ true → (numberOf r ≢ 604) × (1 ≤ rowOf r)
+lower n604 n h e = absurd (none-lower n h (ltb-true n 1 e))
+  where
+    none-lower : (n : ℕ) → 1 ≤ n → n < 1 → ⊥
+    none-lower n a b = omega arith
+lower n601 n h e = (omega arith, omega arith)
+lower n712 n h e = (omega arith, omega arith)
+lower n404 n h e = (omega arith, omega arith)
+lower n501 n h e = (omega arith, omega arith)
+lower n711 n h e = (omega arith, omega arith)
+lower n713 n h e = (omega arith, omega arith)
+lower n603 n h e = (omega arith, omega arith)
 
-one-of-not : {n : ℕ} {rs : List Reason} → OneOf n rs → mentions rs ≡ false → eqb n 604 ≡ false
-unfolding mentions
-one-of-not zero e = refl
-one-of-not (here {r = r}) e = or-l (eqb (numberOf r) 604) _ e
-one-of-not (there {r = r} p) e = one-of-not p (or-r (eqb (numberOf r) 604) _ e)
+one-below : {n : ℕ} {rs : List Reason} → OneOf n rs → (k : ℕ) → 1 ≤ k → below k rs ≡ true → n ≢ 604
+one-below zero k h e = omega arith
+one-below (here {r = r}) k h e = lower r k h (and-l (ltb k (rowOf r)) _ e) .0
+one-below (there {r = r} p) k h e = one-below p (rowOf r) (lower r k h (and-l (ltb k (rowOf r)) _ e) .1) (and-r (ltb k (rowOf r)) _ e)
 
 pub not-604 : (s : State) (c : Call) → Good s → step s c .number ≢ 604
-not-604 s c h e =
+not-604 s c h =
     let p : First (step s c .number) (refusals c s) = rw (plain s c h) (answers (refusals c s) s c (effect c s) (accepts c s)) in
     let o : OneOf (step s c .number) (named c) = subst (OneOf (step s c .number)) (as-named c s) (first-named p) in
-    eqb-false (step s c .number) 604 (one-of-not o (unmentioned c)) e
+    one-below o 1 (omega arith) (table-order c)
+
+-- ---- a refused call is no sign of life, and a call that bears another number is refused
+pub scans-on : (x : Scan) → (scanning x && erred x) ≡ false
+scans-on Scan.Idle = refl
+scans-on Scan.Pending = refl
+scans-on Scan.Scanning = refl
+scans-on Scan.Finishing = refl
+scans-on Scan.Erred = refl
+
+module _ (s : State) (f : Feeder) (n : Reason) where
+  -- also where the feeder is left otherwise
+  pub refusal-silent : (c : Call) → sign c (scanOf s) (refused n (withFeeder f (s .box)) s c) ≡ false
+  refusal-silent (scan (StartScan from count append asked)) = nonzero n
+  refusal-silent (scan (Start j from count)) = nonzero n
+  refusal-silent (scan (Stop j)) = refl
+  refusal-silent (scan (Abort j)) = refl
+  refusal-silent (scan (GetDestination j)) = refl
+  refusal-silent (scan (Fetch called most reply)) = refl
+  refusal-silent (scan GetState) = refl
+  refusal-silent (scan GetSideInformation) = refl
+  refusal-silent (feeder c) = refl
+  refusal-silent (report (Bytes bs)) = ap (λ (x : Bool). x && leb 1 (length bs)) (nonzero n)
+  refusal-silent (report SideEnded) = nonzero n
+  refusal-silent (report (Tray v)) = refl
+  refusal-silent (report (Path v)) = scans-on (scanOf s)
+  refusal-silent (report Tick) = refl
+
+pub refused-silent : (s : State) (c : Call) → taken (step s c) ≡ false → sign c (scanOf s) (step s c) ≡ false
+refused-silent s c =
+    by-step (λ (o : Outcome). taken o ≡ false → sign c (scanOf s) o ≡ false) s c (λ n _. refusal-silent s (s .box .feeder) n c)
+    (λ _ _ _ _ _. refusal-silent s (unloads (s .box .feeder)) n713 c)
+    (λ _ e. absurd (true≢false (sym (ap (λ (n : ℕ). eqb n 0) (accepts c s)) ∙ e)))
+
+-- what the job tests say, for scan calls and for feeder calls
+held-by : (s : State) {i j : ℕ} → notHeld i (s .box) ≡ false → _≡_ {A = Option ℕ} (some i) (some j) → j ≡ s .box .job .held
+held-by s {i} {j} k e =
+    let x = eqb-true i (s .box .job .held) (not-false _ (or-r (idle (scanOf s)) _ k)) in
+    cc
+
+ours-by : (s : State) {i j : ℕ} → notOurs i (s .box) ≡ false → _≡_ {A = Option ℕ} (some i) (some j) → j ≡ s .box .job .held
+ours-by s {i} {j} k e =
+    let x = eqb-true i (s .box .job .held) (not-false _ k) in
+    cc
+
+bearing : (s : State) (c : Call) (j : ℕ) → bears c ≡ some j → Clear (refusals c s) → j ≡ s .box .job .held
+unfolding refusals scanRefusals feederRefusals
+bearing s (scan (StartScan from count append asked)) j e k = cc
+bearing s (scan (Start i from count)) j e k = held-by s (k .1 .0) e
+bearing s (scan (Stop i)) j e k = held-by s (k .0) e
+bearing s (scan (Abort i)) j e k = held-by s (k .0) e
+bearing s (scan (GetDestination i)) j e k = held-by s (k .0) e
+bearing s (scan (Fetch called most reply)) j e k = cc
+bearing s (scan GetState) j e k = cc
+bearing s (scan GetSideInformation) j e k = cc
+bearing s (feeder (Load i)) j e k = ours-by s (k .0) e
+bearing s (feeder (Eject i v)) j e k = ours-by s (k .1 .0) e
+bearing s (feeder (Reset i)) j e k = ours-by s (k .0) e
+bearing s (feeder (SetFeederMode i m)) j e k = ours-by s (k .1 .0) e
+bearing s (feeder GetFeederState) j e k = cc
+bearing s (feeder GetFeederMode) j e k = cc
+bearing s (report c) j e k = cc
+
+pub others-refused : (s : State) (c : Call) (j : ℕ) → bears c ≡ some j → j ≢ s .box .job .held → taken (step s c) ≡ false
+others-refused s c j e d =
+    by-step (λ (o : Outcome). taken o ≡ false) s c nonzero (λ _ _ _ _. refl) (λ k. absurd (d (bearing s c j e k)))

@@ -7,8 +7,8 @@ use Rattle.rules.specs.declared.Scan.{Scan}
 use Rattle.rules.specs.declared.Record.{Record}
 use Rattle.rules.specs.Record.{idle, pending, erred, on}
 use Rattle.rules.specs.Feeder.{jammed, pathAt}
-use Rattle.rules.specs.Moves.{withFeeder, standing, quietAt, stopAt, emptied, jamStops, sheetStops, begun, ended, timedOut, readied, started, stopped}
-use Rattle.rules.specs.Moves.{numbered, faulted, waited, drained, moved, last, fetched, finished, sideEnded, feeds, jams, pathed, due, ticked}
+use Rattle.rules.specs.Moves.{withFeeder, standing, quietAt, stopAt, jamStops, sheetStops, begun, ended, timedOut, readied, started, stopped, numbered}
+use Rattle.rules.specs.Moves.{faulted, waited, drained, moved, last, fetched, finished, sideEnded, feeds, caught, pathed, due, ticked}
 use Rattle.rules.proofs.Choice.{choice}
 
 module _ (P : Record → Type 0) (r : Record) where
@@ -43,9 +43,9 @@ module _ (P : Record → Type 0) (r : Record) where
   sideEnded-cases d f = choice P _ d f
 
   pub pathed-cases : (v : ℕ)
-      → (feeds r ≡ true → P (faulted (emptied (stopAt 0 (quietAt 0 (withFeeder (jammed (r .feeder)) r))))))
+      → (feeds r ≡ true → P (caught r))
       → (feeds r ≡ false → P (withFeeder (jammed (r .feeder)) r)) → P (withFeeder (pathAt 0 (r .feeder)) r) → P (pathed v r)
-  unfolding pathed jams
+  unfolding pathed
   pathed-cases v j f o = choice P (on v) (λ _. choice P _ j f) (λ _. o)
 
   pub ticked-cases : (idle (r .scanner .state) ≡ true → P r)

@@ -1,9 +1,9 @@
 -- Booleans, and what holds of a choice.
 use Prim.Native.Nat.{ℕ}
 use mathlib.Core.Path.{_≡_, refl, sym, _∙_}
+use mathlib.Core.Bool.{Bool, true, false, _&&_, _||_, cond, true≢false, false≢true}
 use mathlib.Core.Option.{Option, none, some}
-use mathlib.Core.Bool.{Bool, true, false, _&&_, _||_, cond, Bool·beq, true≢false, false≢true}
-use Rattle.rules.specs.Record.{implies}
+use Rattle.rules.specs.Record.{implies, exactly}
 
 -- a choice has a property where both of its sides have it
 pub choice : {A : Type 0} (P : A → Type 0) (t : Bool) {x y : A} → (t ≡ true → P x) → (t ≡ false → P y) → P (cond t x y)
@@ -13,17 +13,17 @@ choice P false f g = g refl
 pub clash : {A : Type 0} {t : Bool} → t ≡ true → t ≡ false → A
 clash p q = absurd (true≢false (sym p ∙ q))
 
-pub beq-eq : (a b : Bool) → Bool·beq a b ≡ true → a ≡ b
-beq-eq true true e = refl
-beq-eq true false e = sym e
-beq-eq false true e = e
-beq-eq false false e = refl
+pub exactly-eq : (a b : Bool) → exactly a b ≡ true → a ≡ b
+exactly-eq true true e = refl
+exactly-eq true false e = sym e
+exactly-eq false true e = e
+exactly-eq false false e = refl
 
-pub eq-beq : (a b : Bool) → a ≡ b → Bool·beq a b ≡ true
-eq-beq true true e = refl
-eq-beq true false e = sym e
-eq-beq false true e = e
-eq-beq false false e = refl
+pub eq-exactly : (a b : Bool) → a ≡ b → exactly a b ≡ true
+eq-exactly true true e = refl
+eq-exactly true false e = sym e
+eq-exactly false true e = e
+eq-exactly false false e = refl
 
 pub implied : (a b : Bool) → b ≡ true → implies a b ≡ true
 implied true b e = e

@@ -1,21 +1,20 @@
 -- What a call does to a sound box, in ten kinds. Soundness, time, pictures and ends each go by these and not by the calls.
 use Prim.Native.Nat.{ℕ, _+_, _-_, _≤_}
-use mathlib.Core.Path.{_≡_, refl, sym, ap, subst}
-use mathlib.Core.Bool.{Bool, true, false, _&&_, _||_, true≢false}
+use mathlib.Core.Path.{_≡_, refl, sym, subst}
+use mathlib.Core.Bool.{true, false, _&&_, _||_}
 use mathlib.Core.List.{List, []}
 use mathlib.Core.Option.{none}
 use lib.Dec.{eqb, leb}
 use lib.ListN.{length}
 use native.Mathlib.Omega.{arith}
 use borrow.Author.Tests.{ltb-false, eqb-true, leb-true, not-false}
-use Rattle.rules.specs.declared.Scan.{Scan}
 use Rattle.rules.specs.declared.Feed.{Feed}
 use Rattle.rules.specs.declared.Failure.{Failure}
 use Rattle.rules.specs.declared.Feeder.{Feeder}
 use Rattle.rules.specs.declared.Record.{Record}
-use Rattle.rules.specs.Record.{counted, endless, idle, scanning, erred, busy, stuck, on, granting}
+use Rattle.rules.specs.Record.{counted, endless, idle, scanning, busy, stuck, on, granting}
 use Rattle.rules.specs.Feeder.{pathAt, trayAt, jammed, unloads, loads, ejects, resets}
-use Rattle.rules.specs.Moves.{withFeeder, settled, given, least, filled, faulted, emptied, stopAt, quietAt, feeds}
+use Rattle.rules.specs.Moves.{withFeeder, settled, given, least, filled, feeds, caught}
 use Rattle.rules.specs.Calls.{ScanCall, StartScan, Start, Stop, Abort, GetDestination, Fetch, GetState, GetSideInformation, FeederCall, Load, Eject}
 use Rattle.rules.specs.Calls.{Reset, SetFeederMode, GetFeederState, GetFeederMode, Report, Bytes, SideEnded, Tray, Path, Tick, Call, scan, feeder}
 use Rattle.rules.specs.Calls.{report, Reason, n713, numberOf, State, Values, nothing, Outcome, lent, to, refused, answer}
@@ -26,9 +25,9 @@ use Rattle.rules.proofs.Choice.{choice, or-l, or-r, and-l, and-r, vacuo
 use Rattle.rules.proofs.Sound.{FeederFit, Sound, idle-none}
 use Rattle.rules.proofs.Cases.{pathed-cases}
 use Rattle.rules.proofs.Keeps.{free-path, refit, jammed-fit, refeed, ended-sound, ticked-sound, fetched-sound, filled-sound, sideEnded-sound}
-use Rattle.rules.proofs.Keeps.{free-unless, jams-sound, resting, stopped-sound, settled-fit, started-sound, given-rests, given-common}
+use Rattle.rules.proofs.Keeps.{free-unless, caught-sound, resting, stopped-sound, settled-fit, started-sound, given-rests, given-common}
 use Rattle.rules.proofs.RingLaws.{length-put}
-use Rattle.rules.proofs.Answers.{nonzero, Clear, by-step, Good, plain}
+use Rattle.rules.proofs.Answers.{nonzero, Clear, by-step, Good, plain, scans-on, refusal-silent}
 
 -- an outcome that leaves all but the feeder as it was
 abbrev beside : ℕ → Values → Feeder → List ℕ → State → Outcome
@@ -66,57 +65,33 @@ pub data Deed (s : State) : Call → Outcome → Type 0 where
       → Good (reportEffect (Bytes bs) s .state) → Deed s (report (Bytes bs)) (reportEffect (Bytes bs) s)
   sideEnds : scanning (scanOf s) ≡ true → Good (reportEffect SideEnded s .state) → Deed s (report SideEnded) (reportEffect SideEnded s)
   jams : {v : ℕ} → feeds (s .box) ≡ true
-      → Good (to (faulted (emptied (stopAt 0 (quietAt 0 (withFeeder (jammed (s .box .feeder)) (s .box)))))) s)
+      → Good (to (caught (s .box)) s)
       → Deed s (report (Path v))
-      (accepted nothing (faulted (emptied (stopAt 0 (quietAt 0 (withFeeder (jammed (s .box .feeder)) (s .box)))))) s (report (Path v)))
+      (accepted nothing (caught (s .box)) s (report (Path v)))
   second : Good (reportEffect Tick s .state) → Deed s (report Tick) (reportEffect Tick s)
 
 nothing-mute : Mute nothing
 nothing-mute = record { untimed = refl; uncounted = refl; unpictured = refl }
 
-scans-on : (x : Scan) → (scanning x && erred x) ≡ false
-scans-on Scan.Idle = refl
-scans-on Scan.Pending = refl
-scans-on Scan.Scanning = refl
-scans-on Scan.Finishing = refl
-scans-on Scan.Erred = refl
-
 module _ (s : State) (h : Good s) where
   -- ---- a refused call that leaves the feeder so, if it is no Tick
-  module _ (n : Reason) (f : Feeder) (b : busy (f .state) ≡ busy (s .box .feeder .state)) (i : FeederFit f) where
-    kept : (c : Call) → ticks c ≡ false → sign c (scanOf s) (refused n (withFeeder f (s .box)) s c) ≡ false
-        → Deed s c (refused n (withFeeder f (s .box)) s c)
-    kept c t q =
-        aside {c = c} (numberOf n) nothing f (lent c)
-        (record { free = b; fit = i; silent = q; still = t; mute = nothing-mute; dry = rw (nonzero n) })
+  kept : (c : Call) → ticks c ≡ false → (n : Reason) (f : Feeder) → busy (f .state) ≡ busy (s .box .feeder .state) → FeederFit f
+      → Deed s c (refused n (withFeeder f (s .box)) s c)
+  kept c t n f b i =
+      aside {c = c} (numberOf n) nothing f (lent c)
+      (record { free = b; fit = i; silent = refusal-silent s f n c; still = t; mute = nothing-mute; dry = rw (nonzero n) })
 
-    scan-kept : (c : ScanCall) → Deed s (scan c) (refused n (withFeeder f (s .box)) s (scan c))
-    scan-kept (StartScan from count append asked) = kept (scan (StartScan from count append asked)) refl (nonzero n)
-    scan-kept (Start j from count) = kept (scan (Start j from count)) refl (nonzero n)
-    scan-kept (Stop j) = kept (scan (Stop j)) refl refl
-    scan-kept (Abort j) = kept (scan (Abort j)) refl refl
-    scan-kept (GetDestination j) = kept (scan (GetDestination j)) refl refl
-    scan-kept (Fetch called most reply) = kept (scan (Fetch called most reply)) refl refl
-    scan-kept GetState = kept (scan GetState) refl refl
-    scan-kept GetSideInformation = kept (scan GetSideInformation) refl refl
+  unloading : stuck (s .box .feeder .state) ≡ false → FeederFit (unloads (s .box .feeder))
+  unloading e =
+      let f = s .box .feeder in
+      let i = h .common .feeder in
+      refit Feed.Unloaded (f .failure) f (free-path f e i) i
 
-    report-kept : (c : Report) → ticks (report c) ≡ false → Deed s (report c) (refused n (withFeeder f (s .box)) s (report c))
-    report-kept (Bytes bs) t = kept (report (Bytes bs)) t (ap (λ (x : Bool). x && leb 1 (length bs)) (nonzero n))
-    report-kept SideEnded t = kept (report SideEnded) t (nonzero n)
-    report-kept (Tray v) t = kept (report (Tray v)) t refl
-    report-kept (Path v) t = kept (report (Path v)) t (scans-on (scanOf s))
-    report-kept Tick t = absurd (true≢false t)
-
-  unloading : busy (s .box .feeder .state) ≡ false → stuck (s .box .feeder .state) ≡ false → FeederFit (unloads (s .box .feeder))
-  unloading b e = refit Feed.Unloaded (s .box .feeder .failure) (s .box .feeder) (free-path (s .box .feeder) e (h .common .feeder)) (h .common .feeder)
-
-  -- a property of refusals and of accepted calls, from what they leave the feeder
-  by-deed : (c : Call)
-      → ((n : Reason) (f : Feeder) → busy (f .state) ≡ busy (s .box .feeder .state) → FeederFit f → Deed s c (refused n (withFeeder f (s .box)) s c))
-      → (Clear (refusals c s) → Deed s c (effect c s)) → Deed s c (step s c)
-  by-deed c refusal ok =
-      by-step (Deed s c) s c (λ n. refusal n (s .box .feeder) refl (h .common .feeder))
-      (λ j _ b e. refusal n713 (unloads (s .box .feeder)) (sym b) (unloading b e)) ok
+  -- so what is left is what an accepted call does
+  by-deed : (c : Call) → ticks c ≡ false → (Clear (refusals c s) → Deed s c (effect c s)) → Deed s c (step s c)
+  by-deed c t ok =
+      by-step (Deed s c) s c (λ n. kept c t n (s .box .feeder) refl (h .common .feeder))
+      (λ j _ b e. kept c t n713 (unloads (s .box .feeder)) (sym b) (unloading e)) ok
 
   -- ---- an accepted call that changes the feeder alone, or nothing
   besides : (c : Call) (v : Values) (f : Feeder) → busy (f .state) ≡ busy (s .box .feeder .state) → FeederFit f
@@ -146,9 +121,11 @@ module _ (s : State) (h : Good s) where
       let w = begins-well from count (and-r (listed append) _ values) in
       let i = not-false _ (k .1 .0) in
       let m = settled-fit append (r .settings .append) (and-l (listed append) _ values) (h .common .settings .append) in
+      let a = settled append (r .settings .append) in
+      let n = length (s .bytes) in
       opens i
-      (started-sound (settled from (r .settings .feeder)) count (given (settled append (r .settings .append)) asked r) (length (s .bytes))
-      (granting asked .seconds) (given-common (settled append (r .settings .append)) asked r (length (s .bytes)) m (h .common)) (given-rests (settled append (r .settings .append)) asked r (idle-none (scanOf s) r i (h .phase)))
+      (started-sound (settled from (r .settings .feeder)) count (given a asked r) n
+      (granting asked .seconds) (given-common a asked r n m (h .common)) (given-rests a asked r (idle-none (scanOf s) r i (h .phase)))
       (w .0) (w .1) (w .2) (k .1 .1 .0))
   scan-done (Start j from count) k =
       let r = s .box in
@@ -223,12 +200,14 @@ module _ (s : State) (h : Good s) where
       besides (report (Tray v)) nothing (trayAt v (s .box .feeder)) refl
       (record { tray = leb-true v 1 (not-false _ (k .0)); path = i .path; jam = i .jam }) refl refl nothing-mute refl
   report-done (Path v) k =
+      let c = report (Path v) in
       let f = s .box .feeder in
       let i = h .common .feeder in
-      pathed-cases (λ (x : Record). Deed s (report (Path v)) (accepted nothing x s (report (Path v)))) (s .box) v
-      (λ e. jams e (jams-sound (s .box) (length (s .bytes)) e h))
-      (λ e. besides (report (Path v)) nothing (jammed f) (sym (free-unless (scanOf s) (s .box) e (h .phase))) (jammed-fit f i) (scans-on (scanOf s)) refl nothing-mute refl)
-      (besides (report (Path v)) nothing (pathAt 0 f) refl (record { tray = i .tray; path = omega arith; jam = refl }) (scans-on (scanOf s)) refl nothing-mute refl)
+      let q = scans-on (scanOf s) in
+      pathed-cases (λ (x : Record). Deed s c (accepted nothing x s c)) (s .box) v
+      (λ e. jams e (caught-sound (s .box) (length (s .bytes)) e h))
+      (λ e. besides c nothing (jammed f) (sym (free-unless (scanOf s) (s .box) e (h .phase))) (jammed-fit f i) q refl nothing-mute refl)
+      (besides c nothing (pathAt 0 f) refl (record { tray = i .tray; path = omega arith; jam = refl }) q refl nothing-mute refl)
   report-done Tick k = second (ticked-sound (s .box) (length (s .bytes)) h)
 
   pub tick-is : step s (report Tick) ≡ effect (report Tick) s
@@ -237,16 +216,16 @@ module _ (s : State) (h : Good s) where
 
   report-deed : (c : Report) → Deed s (report c) (step s (report c))
   unfolding refusals reportRefusals effect
-  report-deed (Bytes bs) = by-deed (report (Bytes bs)) (λ n f b i. report-kept n f b i (Bytes bs) refl) (report-done (Bytes bs))
-  report-deed SideEnded = by-deed (report SideEnded) (λ n f b i. report-kept n f b i SideEnded refl) (report-done SideEnded)
-  report-deed (Tray v) = by-deed (report (Tray v)) (λ n f b i. report-kept n f b i (Tray v) refl) (report-done (Tray v))
-  report-deed (Path v) = by-deed (report (Path v)) (λ n f b i. report-kept n f b i (Path v) refl) (report-done (Path v))
+  report-deed (Bytes bs) = by-deed (report (Bytes bs)) refl (report-done (Bytes bs))
+  report-deed SideEnded = by-deed (report SideEnded) refl (report-done SideEnded)
+  report-deed (Tray v) = by-deed (report (Tray v)) refl (report-done (Tray v))
+  report-deed (Path v) = by-deed (report (Path v)) refl (report-done (Path v))
   report-deed Tick = rw tick-is (report-done Tick tt)
 
   pub deed : (c : Call) → Deed s c (step s c)
   unfolding refusals effect
-  deed (scan c) = by-deed (scan c) (λ n f b i. scan-kept n f b i c) (scan-done c)
-  deed (feeder c) = by-deed (feeder c) (λ n f b i. kept n f b i (feeder c) refl refl) (feeder-done c)
+  deed (scan c) = by-deed (scan c) refl (scan-done c)
+  deed (feeder c) = by-deed (feeder c) refl (feeder-done c)
   deed (report c) = report-deed c
 
 -- every step keeps the box sound

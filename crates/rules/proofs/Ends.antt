@@ -12,8 +12,8 @@ use Rattle.rules.specs.declared.Scan.{Scan}
 use Rattle.rules.specs.declared.Record.{Record}
 use Rattle.rules.specs.Record.{idle, scanning, on, limit}
 use Rattle.rules.specs.Ring.{queue}
-use Rattle.rules.specs.Moves.{settled, given, readied, begun, released, drained, least, moved, filled, finished}
 use Rattle.rules.specs.Moves as moves
+use Rattle.rules.specs.Moves.{settled, given, readied, begun, released, drained, least, moved, filled, finished}
 use Rattle.rules.specs.Calls.{Start, Stop, Fetch, SideEnded, Tick, Call, scan, report, State, Values, nothing, picture, Outcome, to}
 use Rattle.rules.specs.Machine.{accepted, scanEffect, reportEffect, effect, step}
 use Rattle.rules.specs.Watch.{scanOf, timeIn, sign, ticks, counting, seconds, orElse, granted, World, next, live, due}
@@ -104,9 +104,10 @@ module _ (w : World) (t : Timely w) (i : idle (scanOf (w .now)) ≡ false) where
       let b = s .box in
       let k = least (b .ring .stored) most (length reply) in
       let n = length (s .bytes) in
+      let c = scan (Fetch called most reply) in
       let o = scanEffect (Fetch called most reply) s in
-      fetched-cases (λ (x : Record). Fate w (scan (Fetch called most reply)) (record { number = 0; values = o .values; state = to x s; reply = o .reply })) b k n
-      (λ l. drain-fate (scan (Fetch called most reply)) (o .values) (o .reply) (moved k n b) (drained (moved k n b)) refl
+      fetched-cases (λ (x : Record). Fate w c (record { number = 0; values = o .values; state = to x s; reply = o .reply })) b k n
+      (λ l. drain-fate c (o .values) (o .reply) (moved k n b) (drained (moved k n b)) refl
       (λ p. lastFetch p (ap (λ (x : Bool). picture k x (queue (s .bytes) (b .ring .start) k)) l))
       (drain-ends (moved k n b)))
       (λ _. held i refl)

@@ -16,9 +16,8 @@ use Rattle.rules.specs.Record.{greatest, endless, leastTime, mostTime, l
 use Rattle.rules.specs.Record.{granting, limit, counted}
 use Rattle.rules.specs.Ring.{wrap}
 use Rattle.rules.specs.Feeder.{fails, taken, freed, late, jammed}
-use Rattle.rules.specs.Moves.{withFeeder, quietAt, stopAt, emptied, jamStops, begun, released, ended, timedOut, settled, nextJob, given, readied}
-use Rattle.rules.specs.Moves.{started, stopped, numbered, faulted, drained, moved, last, fetched, filled, fallen, finished, sideEnded, feeds, due}
-use Rattle.rules.specs.Moves.{ticked}
+use Rattle.rules.specs.Moves.{caught, withFeeder, quietAt, stopAt, jamStops, begun, released, ended, timedOut, settled, nextJob, given, readied}
+use Rattle.rules.specs.Moves.{started, stopped, numbered, drained, moved, last, fetched, filled, fallen, finished, sideEnded, feeds, due, ticked}
 use Rattle.rules.specs.Machine.{listed}
 use Rattle.rules.proofs.Choice.{choice, implied, vacuous, tollens, and-l, and-not}
 use Rattle.rules.proofs.Sound.{RingFit, FeederFit, Common, Held, Holding, Source, Glass, Resting, Reading, PhaseAt, Phase, Sound}
@@ -359,9 +358,8 @@ jam-held : (s : Scan) (r : Record) → (scanning s && on (r .settings .feeder)) 
     → Held (r .job .held) (r .job .last) (r .job .granted .seconds) 0 300
 jam-held s r e p = requiet _ _ (omega arith) (reading s r (and-l _ _ e) p .held)
 
-pub jams-sound : (r : Record) (n : ℕ) → feeds r ≡ true → Sound r n
-    → Sound (faulted (emptied (stopAt 0 (quietAt 0 (withFeeder (jammed (r .feeder)) r))))) n
-jams-sound r n e h =
+pub caught-sound : (r : Record) (n : ℕ) → feeds r ≡ true → Sound r n → Sound (caught r) n
+caught-sound r n e h =
     let g = h .common in
     record {
       common =

@@ -57,12 +57,13 @@ pub deed-flows : {s : State} {c : Call} {o : Outcome} → Good s → Deed s c o 
 unfolding scanEffect reportEffect given readied begun released moved filled finished off
 deed-flows {s} h (aside n v f reply a) = record { flow = λ _. rw (a .mute .uncounted, a .dry) (as-was s) }
 deed-flows {s} h (opens {from} {count} {append} {asked} i g) =
-    started-cases
-    (λ (x : Record). Flows s (scan (StartScan from count append asked)) (accepted (time (granting asked .seconds)) x s (scan (StartScan from count append asked))))
+    let c = scan (StartScan from count append asked) in
+    started-cases (λ (x : Record). Flows s c (accepted (time (granting asked .seconds)) x s c))
     (given (settled append (s .box .settings .append)) asked (s .box)) (settled from (s .box .settings .feeder)) count
     (λ _. record { flow = λ _. as-was s }) (λ _. record { flow = λ _. as-was s })
 deed-flows {s} h (starts {j} {from} {count} i g) =
-    started-cases (λ (x : Record). Flows s (scan (Start j from count)) (accepted nothing x s (scan (Start j from count)))) (s .box)
+    let c = scan (Start j from count) in
+    started-cases (λ (x : Record). Flows s c (accepted nothing x s c)) (s .box)
     (settled from (s .box .settings .feeder)) count (λ _. record { flow = λ _. as-was s }) (λ _. record { flow = λ _. as-was s })
 deed-flows {s} h (stops {j} i e g) =
     stopped-cases (λ (x : Record). Flows s (scan (Stop j)) (accepted nothing x s (scan (Stop j)))) (s .box)
@@ -213,6 +214,9 @@ next-waiting w c h = go (wasted (scanOf (o .state))) refl
     still (some t) x true y = subst (Ours _) (sym (idle-waiting w h y)) tt
     still (some t) x false y = clash (ap opened x) (ap opened (deed-untimed d y))
 
+    present : Ours e q
+    present = still (timeIn (o .values)) refl (idle (scanOf (w .now))) refl
+
     go : (t : Bool) → wasted (scanOf (o .state)) ≡ t → Waiting (next w c)
     go true z =
         record {
@@ -230,7 +234,7 @@ next-waiting w c h = go (wasted (scanOf (o .state))) refl
               (map-append _ (drop k q) new
               ∙ ap₂ (λ (a b : List ℕ). a ++ b) (map-drop k q ∙ ap (drop k) (h .agrees)) (map-tagged e (brought c o))
               ∙ sym (deed-flows (h .good) d .flow z));
-          ours = rw z (ours-append e (drop k q) new (ours-drop e k q (still (timeIn (o .values)) refl (idle (scanOf (w .now))) refl)) (ours-tagged e (brought c o)));
+          ours = rw z (ours-append e (drop k q) new (ours-drop e k q present) (ours-tagged e (brought c o)));
           gone = h .gone ++ take k q;
           among = rw z (among-on (watch.accepted (w .past)) (h .gone) q new k (h .among));
         }

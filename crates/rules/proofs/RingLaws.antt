@@ -1,14 +1,15 @@
 -- The ring is a queue: bytes put in behind are read last, and a start moved on by k drops the first k.
 use Prim.Native.Nat.{ℕ, zero, suc, _+_, _-_, _<_, _≤_}
-use mathlib.Core.Path.{_≡_, refl, sym, ap, ap₂, _∙_}
-use mathlib.Core.List.{List, [], _∷_, _++_, append-assoc, append-nil}
+use mathlib.Core.Path.{_≡_, refl, sym, ap, ap₂, _∙_, subst}
+use mathlib.Core.Logic.{_≢_}
 use mathlib.Core.Bool.{cond}
-use native.Mathlib.Omega.{arith}
-use native.Mathlib.Nat.{suc-add, add-zero, zero-add}
-use borrow.Author.Tests.{ltb-true, ltb-false, lt-ltb, le-ltb}
+use mathlib.Core.List.{List, [], _∷_, _++_, append-assoc, append-nil}
 use lib.Dec.{ltb}
 use lib.ListN.{length, getD, set, take, drop, length-set}
 use lib.Seq.{getD-set-same, getD-set-other, take-at, drop-at}
+use native.Mathlib.Omega.{arith}
+use native.Mathlib.Nat.{suc-add, add-zero, zero-add}
+use borrow.Author.Tests.{ltb-true, ltb-false, lt-ltb, le-ltb}
 use Rattle.rules.specs.Ring.{next, wrap, put, queue}
 use Rattle.rules.proofs.Choice.{choice}
 
@@ -81,6 +82,19 @@ put-queue (b ∷ bs) ring at k h hk =
     ∙ put-queue bs ring′ at (suc k) (omega arith) (omega arith)
     ∙ ap (λ (xs : List ℕ). xs ++ bs) (put-one ring at k b h (omega arith))
     ∙ append-assoc (queue ring at k) (b ∷ []) bs
+
+-- no other ring byte changes
+pub put-other : (bs ring : List ℕ) (at i : ℕ) → at < length ring → length bs ≤ length ring
+    → ((k : ℕ) → k < length bs → i ≢ wrap (length ring) (at + k)) → getD (put ring at bs) i 0 ≡ getD ring i 0
+put-other [] ring at i h l d = refl
+put-other (b ∷ bs) ring at i h l d =
+    let n : ℕ = length ring in
+    let same : length (set ring at b) ≡ n = length-set ring at b in
+    let m : suc (length bs) ≤ n = l in
+    put-other bs (set ring at b) (next n at) i (subst (λ (x : ℕ). next n at < x) (sym same) (next-lt n at h)) (omega arith)
+    (λ k e. subst (λ (x : ℕ). i ≢ wrap x (next n at + k)) (sym same)
+    (subst (λ (x : ℕ). i ≢ x) (sym (wrap-next n at k h (omega arith))) (d (suc k) (omega arith))))
+    ∙ getD-set-other ring at i b 0 (subst (λ (x : ℕ). i ≢ x) (wrap-zero n at h) (d 0 (omega arith)))
 
 -- the k oldest bytes, and what is left after them
 pub queue-split : (ring : List ℕ) (at k m : ℕ) → at < length ring → k ≤ length ring

@@ -3,7 +3,7 @@
 use Prim.Native.Nat.{ℕ, _≤_, _<_}
 use mathlib.Core.Path.{_≡_, refl, sym, _∙_, ap}
 use mathlib.Core.Logic.{_≢_}
-use mathlib.Core.Bool.{Bool, true, false, not, _&&_, _||_, Bool·beq, true≢false, false≢true}
+use mathlib.Core.Bool.{Bool, true, false, not, _&&_, _||_, true≢false, false≢true}
 use mathlib.Core.List.{List, [], _∷_}
 use lib.Dec.{eqb, leb}
 use native.Mathlib.Omega.{arith}
@@ -15,9 +15,9 @@ use Rattle.rules.specs.declared.Settings.{Settings}
 use Rattle.rules.specs.declared.Feeder.{Feeder}
 use Rattle.rules.specs.declared.Ring.{Ring}
 use Rattle.rules.specs.declared.Record.{Record}
-use Rattle.rules.specs.Record.{leastTime, mostTime, faultTime, lastSide, mostRing, idle, scanning, finishing, busy, stuck, on, implies, limit, counted}
-use Rattle.rules.specs.Record.{everyAfter, every, idlePoints, heldPoints, ringPoints, feederPoints, markPoints, points, sound}
-use Rattle.rules.proofs.Choice.{beq-eq, eq-beq, implied, vacuous, tollens, and-l, and-r}
+use Rattle.rules.specs.Record.{leastTime, mostTime, faultTime, lastSide, mostRing, idle, scanning, finishing, busy, stuck, on, implies, exactly, limit}
+use Rattle.rules.specs.Record.{counted, everyAfter, every, idlePoints, heldPoints, ringPoints, feederPoints, markPoints, points, sound}
+use Rattle.rules.proofs.Choice.{exactly-eq, eq-exactly, implied, vacuous, tollens, and-l, and-r}
 
 -- ---- what holds in every scan state
 pub record RingFit (g : Ring) (n : ℕ) : Type 0 where
@@ -136,19 +136,19 @@ all (true ∷ ts) h = all-after ts (h .1)
 all (false ∷ ts) h = absurd (false≢true (h .0))
 
 -- ---- from the test to the facts
-ne-zero : (a : ℕ) → Bool·beq false (eqb a 0) ≡ true → a ≢ 0
-ne-zero a e = eqb-false a 0 (sym (beq-eq false (eqb a 0) e))
+ne-zero : (a : ℕ) → exactly false (eqb a 0) ≡ true → a ≢ 0
+ne-zero a e = eqb-false a 0 (sym (exactly-eq false (eqb a 0) e))
 
-is-zero : (a : ℕ) → Bool·beq true (eqb a 0) ≡ true → a ≡ 0
-is-zero a e = eqb-true a 0 (sym (beq-eq true (eqb a 0) e))
+is-zero : (a : ℕ) → exactly true (eqb a 0) ≡ true → a ≡ 0
+is-zero a e = eqb-true a 0 (sym (exactly-eq true (eqb a 0) e))
 
-off : (a : Bool) → Bool·beq a false ≡ true → a ≡ false
-off a e = beq-eq a false e
+off : (a : Bool) → exactly a false ≡ true → a ≡ false
+off a e = exactly-eq a false e
 
 no-stop : (a : Bool) → implies a false ≡ true → a ≡ false
 no-stop a e = tollens a false e refl
 
-source : (u b : Bool) (c : ℕ) → Bool·beq b u ≡ true → implies b (not (eqb c 0)) ≡ true → implies (not u) (eqb c 1) ≡ true → Source u b c
+source : (u b : Bool) (c : ℕ) → exactly b u ≡ true → implies b (not (eqb c 0)) ≡ true → implies (not u) (eqb c 1) ≡ true → Source u b c
 source true true c p q r = (refl, eqb-false c 0 (not-true _ q))
 source true false c p q r = absurd (false≢true p)
 source false true c p q r = absurd (false≢true p)
@@ -225,7 +225,7 @@ idle-none Scan.Erred r i p = absurd (false≢true i)
 idle-holds : (s : Scan) (r : Record) (i : Bool) → idle s ≡ i → Phase s r → Holds (idlePoints s (r .job) (r .side))
 idle-holds s r true i p =
     let q = idle-none s r i p in (
-      eq-beq _ _ (i ∙ sym (eq-eqb (r .job .held) 0 (q .job))),
+      eq-exactly _ _ (i ∙ sym (eq-eqb (r .job .held) 0 (q .job))),
       (
         implied (idle s) _ (eq-eqb (r .side .number) 1 (q .number)),
         (
@@ -238,7 +238,7 @@ idle-holds s r true i p =
       ),
     )
 idle-holds s r false i p = (
-  eq-beq _ _ (i ∙ sym (ne-eqb (r .job .held) 0 (some (holding s r i p .some)))),
+  eq-exactly _ _ (i ∙ sym (ne-eqb (r .job .held) 0 (some (holding s r i p .some)))),
   (vacuous _ _ i, (vacuous _ _ i, (vacuous _ _ i, (vacuous _ _ i, tt)))),
 )
 
@@ -274,7 +274,7 @@ stored-holds Scan.Finishing r p = (refl, le-leb _ _ (p .full))
 stored-holds Scan.Erred r p = (eq-eqb _ _ (p .empty), refl)
 
 of-source : (u b : Bool) (c : ℕ) → Source u b c
-    → (Bool·beq b u ≡ true) × (implies b (not (eqb c 0)) ≡ true) × (implies (not u) (eqb c 1) ≡ true)
+    → (exactly b u ≡ true) × (implies b (not (eqb c 0)) ≡ true) × (implies (not u) (eqb c 1) ≡ true)
 of-source true b c p = (rw (p .0), rw (p .0, ne-eqb c 0 (p .1)), refl)
 of-source false b c p = (rw (p .0), rw (p .0), eq-eqb c 1 (p .1))
 
@@ -283,14 +283,14 @@ of-glass true c p = refl
 of-glass false c p = eq-eqb c 0 p
 
 feeder-holds : (s : Scan) (r : Record) → Phase s r → Holds (feederPoints s (r .feeder .state) (r .settings) (r .side))
-feeder-holds Scan.Idle r p = (eq-beq _ _ (p .free), (vacuous _ _ (p .free), (refl, (refl, tt))))
-feeder-holds Scan.Pending r p = (eq-beq _ _ (p .free), (vacuous _ _ (p .free), (refl, (refl, tt))))
+feeder-holds Scan.Idle r p = (eq-exactly _ _ (p .free), (vacuous _ _ (p .free), (refl, (refl, tt))))
+feeder-holds Scan.Pending r p = (eq-exactly _ _ (p .free), (vacuous _ _ (p .free), (refl, (refl, tt))))
 feeder-holds Scan.Scanning r p =
     let q = of-source (on (r .settings .feeder)) (busy (r .feeder .state)) (r .side .count) (p .source) in
     (q .0, (q .1, (q .2, (refl, tt))))
 feeder-holds Scan.Finishing r p =
-    (eq-beq _ _ (p .free), (vacuous _ _ (p .free), (refl, (of-glass (on (r .settings .feeder)) (r .side .count) (p .glass), tt))))
-feeder-holds Scan.Erred r p = (eq-beq _ _ (p .free), (vacuous _ _ (p .free), (refl, (refl, tt))))
+    (eq-exactly _ _ (p .free), (vacuous _ _ (p .free), (refl, (of-glass (on (r .settings .feeder)) (r .side .count) (p .glass), tt))))
+feeder-holds Scan.Erred r p = (eq-exactly _ _ (p .free), (vacuous _ _ (p .free), (refl, (refl, tt))))
 
 stop-holds : (s : Scan) (r : Record) → Phase s r → implies (on (r .job .stop)) (scanning s || finishing s) ≡ true
 stop-holds Scan.Idle r p = vacuous _ _ (p .stop)

@@ -5,16 +5,19 @@ use mathlib.Core.Path.{_≡_, refl, sym, _∙_, ap, ap₂}
 use mathlib.Core.Logic.{_↔_, _≢_}
 use mathlib.Core.Bool.{Bool, true, false, _||_, cond, or-true, true≢false}
 use mathlib.Core.List.{List, [], _∷_, _++_}
+use mathlib.Core.Option.{some}
 use lib.Dec.{eqb, leb, ltb}
 use lib.IntN.{pos, negsuc}
 use lib.ListN.{length}
 use native.Mathlib.Omega.{arith}
 use borrow.Author.Tests.{eqb-true, eq-eqb, le-leb, leb-true, ltb-false, ltb-true}
+use Rattle.rules.specs.declared.Record.{Record}
 use Rattle.rules.specs.Record.{greatest, endless, mostSides, signed, counted, idle, sound}
+use Rattle.rules.specs.Moves.{nextJob}
 use Rattle.rules.specs.Calls.{Tick, Call, report, n604, named, State, Outcome}
 use Rattle.rules.specs.Machine.{lines, step, Ran, run, start}
-use Rattle.rules.specs.Watch.{scanOf, Tagged, World, next, live, born, lived, told, got}
-use Rattle.rules.specs.Promises.{All, Ringed, First, OneOf, Refusal, Sides, runBy, OnTime, Fate, Silent, NotPutOff, Yields, Ended}
+use Rattle.rules.specs.Watch.{taken, sign, scanOf, Tagged, World, next, live, born, lived, told, got}
+use Rattle.rules.specs.Promises.{below, bears, All, Ringed, First, OneOf, Refusal, Sides, runBy, OnTime, Fate, Silent, NotPutOff, Yields, Ended}
 use Rattle.rules.specs.Table.{Case, failing, table, starred-hold, edges-hold, slips-hold, refusing-hold, every604-hold, readings-hold}
 use Rattle.rules.proofs.Choice.{choice}
 use Rattle.rules.proofs.Sound.{to-sound, from-sound}
@@ -32,6 +35,10 @@ in-order s c n = answers.in-order s c n
 -- only 604 and the numbers named for the call occur
 pub only-named : (s : State) (c : Call) → OneOf (step s c .number) (n604 ∷ named c)
 only-named s c = answers.only-named s c
+
+-- in the order of the table, 604 before them
+pub table-order : (c : Call) → below 1 (named c) ≡ true
+table-order c = answers.table-order c
 
 -- ---- 2. A refused call leaves the state and reports nothing, or it is Load's 713
 pub refused-keeps : (s : State) (c : Call) → eqb (step s c .number) 0 ≡ false → Refusal s c (step s c)
@@ -114,6 +121,13 @@ pub never-put-off : (ring : List ℕ) → Ringed ring → (cs stretch : List Cal
     → Silent (lived ring cs) stretch → NotPutOff (lived ring cs) (live (lived ring cs) stretch) stretch
 never-put-off ring l cs stretch i s = not-put-off stretch (lived ring cs) (lived-timely ring l cs) i s
 
+-- a refused call is no sign of life, and a call that bears another job's number is refused
+pub refused-silent : (s : State) (c : Call) → taken (step s c) ≡ false → sign c (scanOf s) (step s c) ≡ false
+refused-silent s c = answers.refused-silent s c
+
+pub others-refused : (s : State) (c : Call) (j : ℕ) → bears c ≡ some j → j ≢ s .box .job .held → taken (step s c) ≡ false
+others-refused s c j = answers.others-refused s c j
+
 -- ---- 7. Pictures: what any call yields was accepted for the job then held, in order
 pub provenance : (ring : List ℕ) → Ringed ring → (cs : List Call) (c : Call) → Yields (lived ring cs) (step (lived ring cs .now) c)
 provenance ring l cs c = yields (lived ring cs) (lived-waiting ring l cs) c
@@ -152,6 +166,10 @@ failing-append (c ∷ a) b =
 
 pub table-holds : failing table ≡ []
 table-holds = simp (failing-append, starred-hold, edges-hold, slips-hold, refusing-hold, every604-hold, readings-hold)
+
+-- ---- 0 is never given
+pub never-zero : (r : Record) → nextJob r ≢ 0
+never-zero r = choice (λ (j : ℕ). j ≢ 0) (eqb (r .job .last) greatest) (λ _. omega arith) (λ _. omega arith)
 
 -- ---- SideCount's test is −1 to 999 of its 32 bits in two's complement
 few-or-endless : (c : ℕ) → counted c ≡ true → Sides (signed c)

@@ -70,12 +70,13 @@ unfolding scanEffect reportEffect given readied begun released moved filled fini
 deed-counts h (aside n v f reply a) =
     record { grant = rw (a .mute .untimed); count = λ i. silent (a .silent) i (rw (a .still)) refl }
 deed-counts {s} h (opens {from} {count} {append} {asked} i g) =
-    started-cases
-    (λ (x : Record). Counts s (scan (StartScan from count append asked)) (accepted (time (granting asked .seconds)) x s (scan (StartScan from count append asked))))
+    let c = scan (StartScan from count append asked) in
+    started-cases (λ (x : Record). Counts s c (accepted (time (granting asked .seconds)) x s c))
     (given (settled append (s .box .settings .append)) asked (s .box)) (settled from (s .box .settings .feeder)) count
     (λ _. record { grant = refl; count = λ _. alive refl refl }) (λ _. record { grant = refl; count = λ _. alive refl refl })
 deed-counts {s} h (starts {j} {from} {count} i g) =
-    started-cases (λ (x : Record). Counts s (scan (Start j from count)) (accepted nothing x s (scan (Start j from count)))) (s .box)
+    let c = scan (Start j from count) in
+    started-cases (λ (x : Record). Counts s c (accepted nothing x s c)) (s .box)
     (settled from (s .box .settings .feeder)) count
     (λ _. record { grant = refl; count = λ _. alive refl refl }) (λ _. record { grant = refl; count = λ _. alive refl refl })
 deed-counts {s} h (stops {j} i e g) =

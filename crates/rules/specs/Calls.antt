@@ -55,6 +55,17 @@ numberOf n711 = 711
 numberOf n713 = 713
 numberOf n603 = 603
 
+-- its row in the table
+abbrev pub rowOf : Reason → ℕ
+rowOf n604 = 1
+rowOf n601 = 2
+rowOf n712 = 3
+rowOf n404 = 4
+rowOf n501 = 5
+rowOf n711 = 6
+rowOf n713 = 7
+rowOf n603 = 8
+
 -- ---- the numbers that the paper names for each call; it uses 604 and these, no others
 abbrev pub named : Call → List Reason
 named (scan (StartScan from c append asked)) = n601 ∷ n501 ∷ n711 ∷ n713 ∷ []

@@ -208,17 +208,19 @@ finished r = standing Scan.Finishing (countAt (fallen (r .side .count)) (withFee
 unfoldable pub sideEnded : Record → Record
 sideEnded r = cond (eqb (r .ring .stored) 0) (drained (finished r)) (finished r)
 
--- ---- Path: 0 sets the sensor only
--- 1 also makes the feeder Erred, Jammed; if Scanning from the feeder, the scanner becomes Erred, Jammed, the ring is
--- emptied and an asked stop forgotten; a sign of life
+-- ---- Path
+-- Scanning from the feeder
 abbrev pub feeds : Record → Bool
 feeds r = scanning (r .scanner .state) && on (r .settings .feeder)
 
-unfoldable pub jams : Record → Record
-jams r = cond (feeds r) (faulted (emptied (stopAt 0 (quietAt 0 (withFeeder (jammed (r .feeder)) r))))) (withFeeder (jammed (r .feeder)) r)
+-- 1 also makes the feeder Erred, Jammed; if Scanning from the feeder, the scanner becomes Erred, Jammed, the ring is
+-- emptied and an asked stop forgotten; a sign of life
+abbrev pub caught : Record → Record
+caught r = faulted (emptied (stopAt 0 (quietAt 0 (withFeeder (jammed (r .feeder)) r))))
 
+-- 0 sets the sensor only
 unfoldable pub pathed : ℕ → Record → Record
-pathed v r = cond (on v) (jams r) (withFeeder (pathAt 0 (r .feeder)) r)
+pathed v r = cond (on v) (cond (feeds r) (caught r) (withFeeder (jammed (r .feeder)) r)) (withFeeder (pathAt 0 (r .feeder)) r)
 
 -- ---- Tick. Idle: nothing. Held: quiet plus 1; at granted (300 in Erred) the job ends by time
 abbrev pub due : Record → ℕ

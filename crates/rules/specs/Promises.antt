@@ -1,8 +1,10 @@
 -- What the theorems say, in the words of the three demands. The theorems stand in proofs/Theorems.antt.
 use Prim.Native.Nat.{ℕ, suc, _+_, _≤_, _<_}
 use mathlib.Core.Path.{_≡_}
-use mathlib.Core.Bool.{Bool, true, false, _||_, cond}
+use mathlib.Core.Bool.{Bool, true, false, _&&_, _||_, cond}
 use mathlib.Core.List.{List, [], _∷_, _++_, map}
+use mathlib.Core.Option.{Option, none, some}
+use lib.Dec.{ltb}
 use lib.IntN.{ℤ, pos, negsuc}
 use lib.ListN.{length}
 use Rattle.rules.specs.declared.Scan.{Scan}
@@ -11,8 +13,9 @@ use Rattle.rules.specs.declared.Record.{Record}
 use Rattle.rules.specs.Record.{mostSides, mostRing, idle, pending, erred, on}
 use Rattle.rules.specs.Feeder.{unloads}
 use Rattle.rules.specs.Moves.{withFeeder}
-use Rattle.rules.specs.Calls.{Stop, Abort, Fetch, Load, SideEnded, Tick, Call, scan, feeder, report, Reason, numberOf, State, nothing, picture, Outcome}
-use Rattle.rules.specs.Calls.{lent, Line, refuse, leaving, to}
+use Rattle.rules.specs.Calls.{StartScan, Start, Stop, Abort, GetDestination, Fetch, GetState, GetSideInformation, Eject, Reset, SetFeederMode}
+use Rattle.rules.specs.Calls.{GetFeederState, GetFeederMode, rowOf, Load, SideEnded, Tick, Call, scan, feeder, report, Reason, numberOf, State, nothing}
+use Rattle.rules.specs.Calls.{picture, Outcome, lent, Line, refuse, leaving, to}
 use Rattle.rules.specs.Machine.{Ran, step}
 use Rattle.rules.specs.Watch.{scanOf, bytesIn, countIn, sign, ticks, seconds, ordinal, Tagged, byteOf, accepted, World, next, due, got}
 
@@ -29,7 +32,7 @@ pub record Ringed (ring : List ℕ) : Type 0 where
 -- ---- demand 1
 -- n is the number of the first line whose test holds, or 0 where none does
 pub data First : ℕ → List Line → Type 0 where
-  none : First 0 []
+  noLine : First 0 []
   refuses : {n : Reason} {t : Bool} {ls : List Line} → t ≡ true → First (numberOf n) (refuse n t ∷ ls)
   passes : {m : ℕ} {n : Reason} {t : Bool} {ls : List Line} → t ≡ false → First m ls → First m (refuse n t ∷ ls)
   leaves : {n : Reason} {t : Bool} {r : Record} {ls : List Line} → t ≡ true → First (numberOf n) (leaving n t r ∷ ls)
@@ -40,6 +43,11 @@ pub data OneOf : ℕ → List Reason → Type 0 where
   zero : {rs : List Reason} → OneOf 0 rs
   here : {r : Reason} {rs : List Reason} → OneOf (numberOf r) (r ∷ rs)
   there : {n : ℕ} {r : Reason} {rs : List Reason} → OneOf n rs → OneOf n (r ∷ rs)
+
+-- the reasons stand in the order of the table's rows, below row n
+abbrev pub below : ℕ → List Reason → Bool
+below n [] = true
+below n (r ∷ rs) = ltb n (rowOf r) && below (rowOf r) rs
 
 -- all as it was; or Load's 713, which leaves the feeder Unloaded and the rest
 pub data Left (s : State) (c : Call) (o : Outcome) : Type 0 where
@@ -72,6 +80,24 @@ pub record OnTime (w : World) (o : Outcome) : Type 0 where
       → (scanOf (o .state) ≡ Scan.Idle) × (o .state .box .job .held ≡ 0) × (o .state .box .scanner .failure ≡ Failure.Timeout)
   pub stays : suc (seconds (w .past)) < due w
       → (scanOf (o .state) ≡ scanOf (w .now)) × (o .state .box .job .held ≡ w .now .box .job .held)
+
+-- the job number that a call bears
+abbrev pub bears : Call → Option ℕ
+bears (scan (StartScan from c append asked)) = none
+bears (scan (Start j from c)) = some j
+bears (scan (Stop j)) = some j
+bears (scan (Abort j)) = some j
+bears (scan (GetDestination j)) = some j
+bears (scan (Fetch called most reply)) = none
+bears (scan GetState) = none
+bears (scan GetSideInformation) = none
+bears (feeder (Load j)) = some j
+bears (feeder (Eject j v)) = some j
+bears (feeder (Reset j)) = some j
+bears (feeder (SetFeederMode j m)) = some j
+bears (feeder GetFeederState) = none
+bears (feeder GetFeederMode) = none
+bears (report c) = none
 
 -- what may end the job held: that Tick, Stop in Pending or Erred, Abort, a drain step with a stop asked
 pub data EndsBy (w : World) (o : Outcome) : Call → Type 0 where

@@ -1,6 +1,6 @@
 -- The record: the paper's numbers, the fresh record, and when a record is sound with a ring of n bytes.
 use Prim.Native.Nat.{ℕ, _-_}
-use mathlib.Core.Bool.{Bool, true, false, not, _&&_, _||_, cond, Bool·beq}
+use mathlib.Core.Bool.{Bool, true, false, not, _&&_, _||_, cond}
 use mathlib.Core.List.{List, [], _∷_}
 use lib.Dec.{eqb, leb, ltb}
 use lib.IntN.{ℤ, pos, negsuc}
@@ -110,8 +110,12 @@ on x = eqb x 1
 abbrev pub marked : ℕ → Bool
 marked x = leb x 1
 
+-- a means b; a exactly when b
 abbrev pub implies : Bool → Bool → Bool
 implies a b = not a || b
+
+abbrev pub exactly : Bool → Bool → Bool
+exactly a b = a && b || not a && not b
 
 -- ---- granted time: 0 gives 60; otherwise below 5 gives 5, above 600 gives 600
 abbrev pub granting : ℕ → Granted
@@ -157,7 +161,7 @@ counted c = leb c mostSides || eqb c endless
 -- Idle exactly when job is 0; then SideNumber is 1, SideCount and quiet are 0 and no stop is asked
 abbrev pub idlePoints : Scan → Job → Side → List Bool
 idlePoints s j d =
-    Bool·beq (idle s) (eqb (j .held) 0)
+    exactly (idle s) (eqb (j .held) 0)
     ∷ implies (idle s) (eqb (d .number) 1)
     ∷ implies (idle s) (eqb (d .count) 0)
     ∷ implies (idle s) (eqb (j .quiet) 0)
@@ -192,7 +196,7 @@ ringPoints s g n =
 -- Scanning and 0 in Finishing
 abbrev pub feederPoints : Scan → Feed → Settings → Side → List Bool
 feederPoints s f t d =
-    Bool·beq (busy f) (scanning s && on (t .feeder))
+    exactly (busy f) (scanning s && on (t .feeder))
     ∷ implies (busy f) (not (eqb (d .count) 0))
     ∷ implies (scanning s && not (on (t .feeder))) (eqb (d .count) 1)
     ∷ implies (finishing s && not (on (t .feeder))) (eqb (d .count) 0)

@@ -1,7 +1,7 @@
 -- The lent ring: pictures wait in it, oldest byte out first; bytes go in behind the stored ones, round the ring's end.
 use Prim.Native.Nat.{ℕ, zero, suc, _+_, _-_}
-use mathlib.Core.List.{List, [], _∷_}
 use mathlib.Core.Bool.{cond}
+use mathlib.Core.List.{List, [], _∷_}
 use lib.Dec.{ltb}
 use lib.ListN.{length, getD, set}
 

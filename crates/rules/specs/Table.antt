@@ -14,7 +14,7 @@ use Rattle.rules.specs.declared.Failure.the-variants.{None, Jammed, Time
 use Rattle.rules.specs.declared.Record.{Record}
 use Rattle.rules.specs.Record.{greatest, endless, fresh, sound}
 use Rattle.rules.specs.Moves.{withJob, withSide, quietAt, begun, released, given, readied, started, stopped, name, drained, moved, fetched, filled}
-use Rattle.rules.specs.Moves.{finished, sideEnded, jams, pathed, ticked}
+use Rattle.rules.specs.Moves.{finished, sideEnded, pathed, ticked}
 use Rattle.rules.specs.Calls.{StartScan, Start, Stop, Abort, GetDestination, Fetch, GetState, GetSideInformation, Load, Eject, Reset, SetFeederMode}
 use Rattle.rules.specs.Calls.{GetFeederState, GetFeederMode, Bytes, SideEnded, Tray, Path, Tick, Call, scan, feeder, report, State, Values, nothing}
 use Rattle.rules.specs.Calls.{time, destination, picture, state, sides, feeding, mode, stored, Outcome, answer}
@@ -32,7 +32,8 @@ failing (c ∷ cs) = cond (c .right) (failing cs) (c .says ∷ failing cs)
 
 -- the outcome of a call after others
 unfoldable pub final : State → List Call → Call → Outcome
-unfolding run step answer scanRefusals feederRefusals reportRefusals refusals scanEffect feederEffect reportEffect effect sound begun released given readied started stopped name drained moved fetched filled finished sideEnded jams pathed ticked
+unfolding run step answer scanRefusals feederRefusals reportRefusals refusals scanEffect feederEffect reportEffect effect sound begun
+    released given readied started stopped name drained moved fetched filled finished sideEnded pathed ticked
 final s cs c = step (run s cs .end) c
 
 abbrev pub scanCode : Scan → ℕ
@@ -195,7 +196,8 @@ edges =
     ∷ replied "a refused fetch writes nothing" box [] (scan (Fetch name1 2 (1 ∷ 2 ∷ 3 ∷ 4 ∷ 5 ∷ []))) (1 ∷ 2 ∷ 3 ∷ 4 ∷ 5 ∷ [])
     ∷ case "k by the reply's length" box filling (scan (Fetch name1 8 (0 ∷ 0 ∷ 0 ∷ 0 ∷ 0 ∷ []))) (line 0 Scanning Busy 1 1 1 (1 ∷ 0 ∷ 65 ∷ []))
     ∷ case "last, then the drain step" box (filling ++ report SideEnded ∷ []) fetch (line 0 Pending Unloaded 1 2 0 (3 ∷ 1 ∷ 65 ∷ 66 ∷ 67 ∷ []))
-    ∷ case "not last while bytes stay" box (filling ++ report SideEnded ∷ []) (scan (Fetch name1 2 reply)) (line 0 Finishing Unloaded 1 1 0 (2 ∷ 0 ∷ 65 ∷ 66 ∷ []))
+    ∷ case "not last while bytes stay" box (filling ++ report SideEnded ∷ []) (scan (Fetch name1 2 reply))
+    (line 0 Finishing Unloaded 1 1 0 (2 ∷ 0 ∷ 65 ∷ 66 ∷ []))
     ∷ case "a stop asked ends the job in the drain step" box (filling ++ scan (Stop 1) ∷ report SideEnded ∷ []) fetch
     (line 0 Idle Unloaded 0 1 0 (3 ∷ 1 ∷ 65 ∷ 66 ∷ 67 ∷ []))
     ∷ case "the name without Append" box (scan (StartScan 0 0 0 0) ∷ []) (scan (GetDestination 1))
