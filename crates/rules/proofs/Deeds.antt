@@ -67,7 +67,7 @@ pub data Deed (s : State) : Call → Outcome → Type 0 where
   jams : {v : ℕ} → feeds (s .box) ≡ true
       → Good (to (caught (s .box)) s)
       → Deed s (report (Path v))
-      (accepted nothing (caught (s .box)) s (report (Path v)))
+      (accepted nothing (caught (s .box)) s)
   second : Good (reportEffect Tick s .state) → Deed s (report Tick) (reportEffect Tick s)
 
 nothing-mute : Mute nothing
@@ -95,14 +95,14 @@ module _ (s : State) (h : Good s) where
 
   -- ---- an accepted call that changes the feeder alone, or nothing
   besides : (c : Call) (v : Values) (f : Feeder) → busy (f .state) ≡ busy (s .box .feeder .state) → FeederFit f
-      → sign c (scanOf s) (accepted v (withFeeder f (s .box)) s c) ≡ false → ticks c ≡ false → Mute v
-      → brought c (accepted v (withFeeder f (s .box)) s c) ≡ [] → Deed s c (accepted v (withFeeder f (s .box)) s c)
+      → sign c (scanOf s) (accepted v (withFeeder f (s .box)) s) ≡ false → ticks c ≡ false → Mute v
+      → brought c (accepted v (withFeeder f (s .box)) s) ≡ [] → Deed s c (accepted v (withFeeder f (s .box)) s)
   besides c v f b i q t m d =
-      aside {c = c} 0 v f (lent c) (record { free = b; fit = i; silent = q; still = t; mute = m; dry = d })
+      aside {c = c} 0 v f [] (record { free = b; fit = i; silent = q; still = t; mute = m; dry = d })
 
   -- one that only reads
-  reads : (c : Call) (v : Values) → sign c (scanOf s) (accepted v (s .box) s c) ≡ false → ticks c ≡ false → Mute v
-      → brought c (accepted v (s .box) s c) ≡ [] → Deed s c (accepted v (s .box) s c)
+  reads : (c : Call) (v : Values) → sign c (scanOf s) (accepted v (s .box) s) ≡ false → ticks c ≡ false → Mute v
+      → brought c (accepted v (s .box) s) ≡ [] → Deed s c (accepted v (s .box) s)
   reads c v = besides c v (s .box .feeder) refl (h .common .feeder)
 
   -- ---- scan calls
@@ -204,7 +204,7 @@ module _ (s : State) (h : Good s) where
       let f = s .box .feeder in
       let i = h .common .feeder in
       let q = scans-on (scanOf s) in
-      pathed-cases (λ (x : Record). Deed s c (accepted nothing x s c)) (s .box) v
+      pathed-cases (λ (x : Record). Deed s c (accepted nothing x s)) (s .box) v
       (λ e. jams e (caught-sound (s .box) (length (s .bytes)) e h))
       (λ e. besides c nothing (jammed f) (sym (free-unless (scanOf s) (s .box) e (h .phase))) (jammed-fit f i) q refl nothing-mute refl)
       (besides c nothing (pathAt 0 f) refl (record { tray = i .tray; path = omega arith; jam = refl }) q refl nothing-mute refl)

@@ -57,7 +57,7 @@ module _ (w : World) (t : Timely w) (i : idle (scanOf (w .now)) ≡ false) where
       let l = in-time in
       let q = t .count i in
       rw (tick-is (w .now) (t .good))
-      (ticked-cases (λ (x : Record). OnTime w (accepted nothing x (w .now) (report Tick))) (w .now .box) (λ e. clash e i)
+      (ticked-cases (λ (x : Record). OnTime w (accepted nothing x (w .now))) (w .now .box) (λ e. clash e i)
       (λ _ e. record {
         soon = omega arith;
         ends = λ _. (refl, refl, refl);
@@ -93,10 +93,10 @@ module _ (w : World) (t : Timely w) (i : idle (scanOf (w .now)) ≡ false) where
   fate-of (aside n v f reply a) = held i refl
   fate-of (opens e g) = clash e i
   fate-of (starts {j} {from} {count} e g) =
-      started-cases (λ (x : Record). Fate w (scan (Start j from count)) (accepted nothing x (w .now) (scan (Start j from count)))) (w .now .box)
+      started-cases (λ (x : Record). Fate w (scan (Start j from count)) (accepted nothing x (w .now))) (w .now .box)
       (settled from (w .now .box .settings .feeder)) count (λ _. held refl refl) (λ _. held refl refl)
   fate-of (stops {j} e f g) =
-      stopped-cases (λ (x : Record). Fate w (scan (Stop j)) (accepted nothing x (w .now) (scan (Stop j)))) (w .now .box)
+      stopped-cases (λ (x : Record). Fate w (scan (Stop j)) (accepted nothing x (w .now))) (w .now .box)
       (λ p. over refl refl (stop f p)) (λ _. held i refl)
   fate-of (aborts {j} e f g) = over refl refl (abort f)
   fate-of (fetches {called} {most} {reply} e g) =
@@ -114,13 +114,13 @@ module _ (w : World) (t : Timely w) (i : idle (scanOf (w .now)) ≡ false) where
   fate-of (fills x l g) = held i refl
   fate-of (sideEnds x g) =
       let s = w .now in
-      sideEnded-cases (λ (y : Record). Fate w (report SideEnded) (accepted nothing y s (report SideEnded))) (s .box)
+      sideEnded-cases (λ (y : Record). Fate w (report SideEnded) (accepted nothing y s)) (s .box)
       (λ e. drain-fate (report SideEnded) nothing [] (finished (s .box)) (drained (finished (s .box))) refl
       (λ p. sideEnd p (eqb-true _ _ e)) (drain-ends (finished (s .box))))
       (λ _. held refl refl)
   fate-of (jams e g) = held refl refl
   fate-of (second g) =
-      ticked-cases (λ (x : Record). Fate w (report Tick) (accepted nothing x (w .now) (report Tick))) (w .now .box) (λ e. clash e i)
+      ticked-cases (λ (x : Record). Fate w (report Tick) (accepted nothing x (w .now))) (w .now .box) (λ e. clash e i)
       (λ _ e. over refl refl
       (time (at-last (leb-true (moves.due (w .now .box)) (w .now .box .job .quiet + 1) e) (in-time w t i) (due-is w t i) (t .count i))))
       (λ _ _. held i refl)

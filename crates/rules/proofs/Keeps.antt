@@ -16,7 +16,7 @@ use Rattle.rules.specs.Record.{greatest, endless, leastTime, mostTime, l
 use Rattle.rules.specs.Record.{granting, limit, counted}
 use Rattle.rules.specs.Ring.{wrap}
 use Rattle.rules.specs.Feeder.{fails, taken, freed, late, jammed}
-use Rattle.rules.specs.Moves.{caught, withFeeder, quietAt, stopAt, jamStops, begun, released, ended, timedOut, settled, nextJob, given, readied}
+use Rattle.rules.specs.Moves.{device, caught, withFeeder, quietAt, stopAt, jamStops, begun, released, ended, timedOut, settled, nextJob, given, readied}
 use Rattle.rules.specs.Moves.{started, stopped, numbered, drained, moved, last, fetched, filled, fallen, finished, sideEnded, feeds, due, ticked}
 use Rattle.rules.specs.Machine.{listed}
 use Rattle.rules.proofs.Choice.{choice, implied, vacuous, tollens, and-l, and-not}
@@ -406,7 +406,7 @@ stored-begins false b c z f g = (f, choice (λ (x : ℕ). x ≡ 1) (eqb c endles
     one false l e = absurd (false≢true (rw (l, e) at g))
 
 pub settled-fit : (v k : ℕ) → listed v ≡ true → k ≤ 1 → settled v k ≤ 1
-settled-fit v k l h = choice (λ (x : ℕ). x ≤ 1) (eqb v 2) (λ _. h) (λ e. omega (arith, leb-true v 2 l, eqb-false v 2 e))
+settled-fit v k l h = choice (λ (x : ℕ). x ≤ 1) (eqb v device) (λ _. h) (λ e. omega (arith, leb-true v device l, eqb-false v device e))
 
 pub started-sound : (from c : ℕ) (r : Record) (n lim : ℕ) → Common r n → Rests r lim → from ≤ 1 → counted c ≡ true
     → (on from || leb c 1 || eqb c endless) ≡ true → (not (eqb c 0) && jamStops from (r .feeder)) ≡ false → Sound (started from c r) n

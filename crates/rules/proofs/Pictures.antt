@@ -58,15 +58,15 @@ unfolding scanEffect reportEffect given readied begun released moved filled fini
 deed-flows {s} h (aside n v f reply a) = record { flow = λ _. rw (a .mute .uncounted, a .dry) (as-was s) }
 deed-flows {s} h (opens {from} {count} {append} {asked} i g) =
     let c = scan (StartScan from count append asked) in
-    started-cases (λ (x : Record). Flows s c (accepted (time (granting asked .seconds)) x s c))
+    started-cases (λ (x : Record). Flows s c (accepted (time (granting asked .seconds)) x s))
     (given (settled append (s .box .settings .append)) asked (s .box)) (settled from (s .box .settings .feeder)) count
     (λ _. record { flow = λ _. as-was s }) (λ _. record { flow = λ _. as-was s })
 deed-flows {s} h (starts {j} {from} {count} i g) =
     let c = scan (Start j from count) in
-    started-cases (λ (x : Record). Flows s c (accepted nothing x s c)) (s .box)
+    started-cases (λ (x : Record). Flows s c (accepted nothing x s)) (s .box)
     (settled from (s .box .settings .feeder)) count (λ _. record { flow = λ _. as-was s }) (λ _. record { flow = λ _. as-was s })
 deed-flows {s} h (stops {j} i e g) =
-    stopped-cases (λ (x : Record). Flows s (scan (Stop j)) (accepted nothing x s (scan (Stop j)))) (s .box)
+    stopped-cases (λ (x : Record). Flows s (scan (Stop j)) (accepted nothing x s)) (s .box)
     (λ _. record { flow = λ x. absurd (true≢false x) }) (λ _. record { flow = λ _. as-was s })
 deed-flows h (aborts i e g) = record { flow = λ x. absurd (true≢false x) }
 deed-flows {s} h (fetches {called} {most} {reply} i g) =
@@ -80,12 +80,12 @@ deed-flows {s} h (fetches {called} {most} {reply} i g) =
 deed-flows {s} h (fills {bs} x l g) =
     record { flow = λ _. put-queue bs (s .bytes) (s .box .ring .start) (s .box .ring .stored) (h .common .ring .start) l }
 deed-flows {s} h (sideEnds x g) =
-    sideEnded-cases (λ (y : Record). Flows s (report SideEnded) (accepted nothing y s (report SideEnded))) (s .box)
+    sideEnded-cases (λ (y : Record). Flows s (report SideEnded) (accepted nothing y s)) (s .box)
     (λ _. record { flow = λ z. ap (off s) (drained-ring (finished (s .box)) .ring z) ∙ as-was s })
     (λ _. record { flow = λ _. as-was s })
 deed-flows h (jams e g) = record { flow = λ x. absurd (true≢false x) }
 deed-flows {s} h (second g) =
-    ticked-cases (λ (x : Record). Flows s (report Tick) (accepted nothing x s (report Tick))) (s .box)
+    ticked-cases (λ (x : Record). Flows s (report Tick) (accepted nothing x s)) (s .box)
     (λ _. record { flow = λ _. as-was s }) (λ _ _. record { flow = λ x. absurd (true≢false x) }) (λ _ _. record { flow = λ _. as-was s })
 
 -- what a call reports of the ring is the first of what stands there

@@ -12,7 +12,7 @@ use lib.ListN.{length}
 use native.Mathlib.Omega.{arith}
 use borrow.Author.Tests.{eqb-true, eq-eqb, le-leb, leb-true, ltb-false, ltb-true}
 use Rattle.rules.specs.declared.Record.{Record}
-use Rattle.rules.specs.Record.{greatest, endless, mostSides, signed, counted, idle, sound}
+use Rattle.rules.specs.Record.{greatest, negatives, endless, mostSides, signed, counted, idle, sound}
 use Rattle.rules.specs.Moves.{nextJob}
 use Rattle.rules.specs.Calls.{Tick, Call, report, n604, named, State, Outcome}
 use Rattle.rules.specs.Machine.{lines, step, Ran, run, start}
@@ -178,15 +178,15 @@ few-or-endless c h = go (leb c mostSides) refl h
     go : (t : Bool) → leb c mostSides ≡ t → (t || eqb c endless) ≡ true → Sides (signed c)
     go true l h =
         let k = leb-true c mostSides l in
-        choice Sides (ltb c 2147483648) (λ _. k) (λ e. absurd (too-large (ltb-false c 2147483648 e) k))
+        choice Sides (ltb c negatives) (λ _. k) (λ e. absurd (too-large (ltb-false c negatives e) k))
       where
-        too-large : {c : ℕ} → 2147483648 ≤ c → c ≤ mostSides → ⊥
+        too-large : {c : ℕ} → negatives ≤ c → c ≤ mostSides → ⊥
         too-large a b = omega arith
     go false l h =
         let k = eqb-true c endless h in
-        choice Sides (ltb c 2147483648) (λ e. absurd (too-small (ltb-true c 2147483648 e) k)) (λ _. omega (arith, k))
+        choice Sides (ltb c negatives) (λ e. absurd (too-small (ltb-true c negatives e) k)) (λ _. omega (arith, k))
       where
-        too-small : {c : ℕ} → c < 2147483648 → c ≡ endless → ⊥
+        too-small : {c : ℕ} → c < negatives → c ≡ endless → ⊥
         too-small a b = omega arith
 
 sides-counted : (c : ℕ) → c ≤ greatest → (t : Bool) → Sides (cond t (pos c) (negsuc (greatest - c))) → counted c ≡ true
@@ -194,4 +194,4 @@ sides-counted c l true h = rw (le-leb c mostSides h)
 sides-counted c l false h = rw (eq-eqb c endless (omega (arith, h, l))) (or-true (leb c mostSides))
 
 pub sides-read : (c : ℕ) → c ≤ greatest → (counted c ≡ true) ↔ Sides (signed c)
-sides-read c l = (few-or-endless c, sides-counted c l (ltb c 2147483648))
+sides-read c l = (few-or-endless c, sides-counted c l (ltb c negatives))

@@ -71,16 +71,16 @@ deed-counts h (aside n v f reply a) =
     record { grant = rw (a .mute .untimed); count = λ i. silent (a .silent) i (rw (a .still)) refl }
 deed-counts {s} h (opens {from} {count} {append} {asked} i g) =
     let c = scan (StartScan from count append asked) in
-    started-cases (λ (x : Record). Counts s c (accepted (time (granting asked .seconds)) x s c))
+    started-cases (λ (x : Record). Counts s c (accepted (time (granting asked .seconds)) x s))
     (given (settled append (s .box .settings .append)) asked (s .box)) (settled from (s .box .settings .feeder)) count
     (λ _. record { grant = refl; count = λ _. alive refl refl }) (λ _. record { grant = refl; count = λ _. alive refl refl })
 deed-counts {s} h (starts {j} {from} {count} i g) =
     let c = scan (Start j from count) in
-    started-cases (λ (x : Record). Counts s c (accepted nothing x s c)) (s .box)
+    started-cases (λ (x : Record). Counts s c (accepted nothing x s)) (s .box)
     (settled from (s .box .settings .feeder)) count
     (λ _. record { grant = refl; count = λ _. alive refl refl }) (λ _. record { grant = refl; count = λ _. alive refl refl })
 deed-counts {s} h (stops {j} i e g) =
-    stopped-cases (λ (x : Record). Counts s (scan (Stop j)) (accepted nothing x s (scan (Stop j)))) (s .box)
+    stopped-cases (λ (x : Record). Counts s (scan (Stop j)) (accepted nothing x s)) (s .box)
     (λ _. record { grant = refl; count = λ x. absurd (true≢false x) }) (λ _. record { grant = refl; count = λ _. silent refl i refl refl })
 deed-counts h (aborts i e g) = record { grant = refl; count = λ x. absurd (true≢false x) }
 deed-counts {s} h (fetches {called} {most} {reply} i g) =
@@ -103,12 +103,12 @@ deed-counts {s} h (fills {bs} x l g) =
       count = λ i. heard s (report (Bytes bs)) (reportEffect (Bytes bs) s) (leb 1 (length bs)) i refl refl refl (λ _. refl);
     }
 deed-counts {s} h (sideEnds x g) =
-    sideEnded-cases (λ (y : Record). Counts s (report SideEnded) (accepted nothing y s (report SideEnded))) (s .box)
+    sideEnded-cases (λ (y : Record). Counts s (report SideEnded) (accepted nothing y s)) (s .box)
     (λ _. let k = drained-keeps 0 (s .box) (finished (s .box)) refl refl in record { grant = k .granted; count = λ a. alive refl (k .quiet a) })
     (λ _. record { grant = refl; count = λ _. alive refl refl })
 deed-counts {s} h (jams e g) = record { grant = refl; count = λ _. alive (rw (and-l (scanning (scanOf s)) (on (s .box .settings .feeder)) e)) refl }
 deed-counts {s} h (second g) =
-    ticked-cases (λ (x : Record). Counts s (report Tick) (accepted nothing x s (report Tick))) (s .box)
+    ticked-cases (λ (x : Record). Counts s (report Tick) (accepted nothing x s)) (s .box)
     (λ e. record { grant = refl; count = λ i. clash e i }) (λ _ _. record { grant = refl; count = λ i. absurd (true≢false i) })
     (λ i _. record { grant = refl; count = λ _. silent refl i (add-one (s .box .job .quiet)) refl })
 

@@ -8,17 +8,17 @@ use Rattle.rules.specs.declared.Record.{Record}
 use Rattle.rules.specs.Record.{endless, counted, idle, pending, scanning, erred, unloaded, busy, stuck, on, marked, granting, fresh, sound}
 use Rattle.rules.specs.Ring.{wrap, put, queue}
 use Rattle.rules.specs.Feeder.{trayAt, loadless, unloads, loads, ejects, resets, simplex}
-use Rattle.rules.specs.Moves.{withFeeder, jamStops, sheetStops, ended, settled, given, started, stopped, name, scanLength, least, last, fetched, filled}
-use Rattle.rules.specs.Moves.{sideEnded, pathed, ticked}
+use Rattle.rules.specs.Moves.{device, headed, withFeeder, jamStops, sheetStops, ended, settled, given, started, stopped, name, scanLength, least, last}
+use Rattle.rules.specs.Moves.{fetched, filled, sideEnded, pathed, ticked}
 use Rattle.rules.specs.Calls.{ScanCall, StartScan, Start, Stop, Abort, GetDestination, Fetch, GetState, GetSideInformation, FeederCall, Load, Eject}
 use Rattle.rules.specs.Calls.{Reset, SetFeederMode, GetFeederState, GetFeederMode, Report, Bytes, SideEnded, Tray, Path, Tick, Call, scan, feeder}
 use Rattle.rules.specs.Calls.{report, n604, n601, n712, n404, n501, n711, n713, n603, State, Values, nothing, time, destination, picture, state, sides}
-use Rattle.rules.specs.Calls.{feeding, mode, stored, Outcome, lent, Line, refuse, leaving, to, answer}
+use Rattle.rules.specs.Calls.{feeding, mode, stored, Outcome, Line, refuse, leaving, to, answer}
 
 -- ---- tests
 -- 0, 1 or 2
 abbrev pub listed : ℕ → Bool
-listed v = leb v 2
+listed v = leb v device
 
 -- UseFeeder; SideCount −1 to 999; on the glass, after settling UseFeeder, only −1, 0 or 1
 abbrev pub sidesListed : ℕ → ℕ → Record → Bool
@@ -60,7 +60,7 @@ scanRefusals (Stop j) r = refuse n712 (notHeld j r) ∷ []
 scanRefusals (Abort j) r = refuse n712 (notHeld j r) ∷ []
 scanRefusals (GetDestination j) r = refuse n712 (notHeld j r) ∷ []
 scanRefusals (Fetch called most reply) r =
-    refuse n404 (idle (r .scanner .state) || not (same called (name r))) ∷ refuse n603 (ltb (length reply) 4) ∷ []
+    refuse n404 (idle (r .scanner .state) || not (same called (name r))) ∷ refuse n603 (ltb (length reply) headed) ∷ []
 scanRefusals GetState r = []
 scanRefusals GetSideInformation r = []
 
@@ -96,9 +96,9 @@ refusals (scan c) s = scanRefusals c (s .box)
 refusals (feeder c) s = feederRefusals c (s .box)
 refusals (report c) s = reportRefusals c (s .box) (length (s .bytes))
 
--- ---- 0 is acceptance: values and record, the ring and the reply as they were
-abbrev pub accepted : Values → Record → State → Call → Outcome
-accepted v r s c = record { number = 0; values = v; state = to r s; reply = lent c }
+-- ---- 0 is acceptance: values and record; the ring as it was, and no reply lent
+abbrev pub accepted : Values → Record → State → Outcome
+accepted v r s = record { number = 0; values = v; state = to r s; reply = [] }
 
 unfoldable pub scanEffect : ScanCall → State → Outcome
 scanEffect (StartScan from c append asked) s =
@@ -106,12 +106,10 @@ scanEffect (StartScan from c append asked) s =
     accepted (time (granting asked .seconds))
     (started (settled from (r .settings .feeder)) c (given (settled append (r .settings .append)) asked r))
     s
-    (scan (StartScan from c append asked))
-scanEffect (Start j from c) s = accepted nothing (started (settled from (s .box .settings .feeder)) c (s .box)) s (scan (Start j from c))
-scanEffect (Stop j) s = accepted nothing (stopped (s .box)) s (scan (Stop j))
-scanEffect (Abort j) s = accepted nothing (ended (s .box)) s (scan (Abort j))
-scanEffect (GetDestination j) s =
-    accepted (destination (name (s .box)) (s .box .side .destination)) (s .box) s (scan (GetDestination j))
+scanEffect (Start j from c) s = accepted nothing (started (settled from (s .box .settings .feeder)) c (s .box)) s
+scanEffect (Stop j) s = accepted nothing (stopped (s .box)) s
+scanEffect (Abort j) s = accepted nothing (ended (s .box)) s
+scanEffect (GetDestination j) s = accepted (destination (name (s .box)) (s .box .side .destination)) (s .box) s
 -- the reply gets the head A5 5A 06 k, and the picture bytes straight after it; later bytes stay
 scanEffect (Fetch called most reply) s =
     let r = s .box in
@@ -121,20 +119,18 @@ scanEffect (Fetch called most reply) s =
       number = 0;
       values = picture k (last k r) bytes;
       state = to (fetched k (length (s .bytes)) r) s;
-      reply = 165 ∷ 90 ∷ 6 ∷ k ∷ bytes ++ drop (4 + k) reply;
+      reply = 0xA5 ∷ 0x5A ∷ 0x06 ∷ k ∷ bytes ++ drop (headed + k) reply;
     }
-scanEffect GetState s = accepted (state (s .box .scanner .state) (s .box .scanner .failure)) (s .box) s (scan GetState)
-scanEffect GetSideInformation s =
-    accepted (sides (s .box .side .number) (s .box .side .count) (scanLength (s .box))) (s .box) s (scan GetSideInformation)
+scanEffect GetState s = accepted (state (s .box .scanner .state) (s .box .scanner .failure)) (s .box) s
+scanEffect GetSideInformation s = accepted (sides (s .box .side .number) (s .box .side .count) (scanLength (s .box))) (s .box) s
 
 unfoldable pub feederEffect : FeederCall → State → Outcome
-feederEffect (Load j) s = accepted nothing (withFeeder (loads (s .box .feeder)) (s .box)) s (feeder (Load j))
-feederEffect (Eject j v) s = accepted nothing (withFeeder (ejects v (s .box .feeder)) (s .box)) s (feeder (Eject j v))
-feederEffect (Reset j) s = accepted nothing (withFeeder (resets (s .box .feeder)) (s .box)) s (feeder (Reset j))
-feederEffect (SetFeederMode j m) s = accepted nothing (s .box) s (feeder (SetFeederMode j m))
-feederEffect GetFeederState s =
-    accepted (feeding (s .box .feeder .state) (s .box .feeder .tray) (s .box .feeder .failure)) (s .box) s (feeder GetFeederState)
-feederEffect GetFeederMode s = accepted (mode simplex) (s .box) s (feeder GetFeederMode)
+feederEffect (Load j) s = accepted nothing (withFeeder (loads (s .box .feeder)) (s .box)) s
+feederEffect (Eject j v) s = accepted nothing (withFeeder (ejects v (s .box .feeder)) (s .box)) s
+feederEffect (Reset j) s = accepted nothing (withFeeder (resets (s .box .feeder)) (s .box)) s
+feederEffect (SetFeederMode j m) s = accepted nothing (s .box) s
+feederEffect GetFeederState s = accepted (feeding (s .box .feeder .state) (s .box .feeder .tray) (s .box .feeder .failure)) (s .box) s
+feederEffect GetFeederMode s = accepted (mode simplex) (s .box) s
 
 unfoldable pub reportEffect : Report → State → Outcome
 -- all into the ring, behind the stored ones
@@ -146,10 +142,10 @@ reportEffect (Bytes bs) s =
       state = record { box = filled (length bs) r; bytes = put (s .bytes) (wrap (length (s .bytes)) (r .ring .start + r .ring .stored)) bs };
       reply = [];
     }
-reportEffect SideEnded s = accepted nothing (sideEnded (s .box)) s (report SideEnded)
-reportEffect (Tray v) s = accepted nothing (withFeeder (trayAt v (s .box .feeder)) (s .box)) s (report (Tray v))
-reportEffect (Path v) s = accepted nothing (pathed v (s .box)) s (report (Path v))
-reportEffect Tick s = accepted nothing (ticked (s .box)) s (report Tick)
+reportEffect SideEnded s = accepted nothing (sideEnded (s .box)) s
+reportEffect (Tray v) s = accepted nothing (withFeeder (trayAt v (s .box .feeder)) (s .box)) s
+reportEffect (Path v) s = accepted nothing (pathed v (s .box)) s
+reportEffect Tick s = accepted nothing (ticked (s .box)) s
 
 unfoldable pub effect : Call → State → Outcome
 effect (scan c) s = scanEffect c s

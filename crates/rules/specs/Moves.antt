@@ -100,8 +100,11 @@ timedOut r = released Failure.Timeout (late (r .feeder)) r
 
 -- ---- StartScan and Start
 -- 2 is device-setting: keep the setting
+abbrev pub device : ℕ
+device = 2
+
 abbrev pub settled : ℕ → ℕ → ℕ
-settled asked kept = cond (eqb asked 2) kept asked
+settled asked kept = cond (eqb asked device) kept asked
 
 -- −1 on the glass is stored as 1
 abbrev pub storedSides : ℕ → ℕ → ℕ
@@ -175,9 +178,13 @@ unfoldable pub drained : Record → Record
 drained r = drainedOn (numbered r)
 
 -- ---- Fetch
+-- the reply's head
+abbrev pub headed : ℕ
+headed = 4
+
 -- k is the least of stored, most and reply length less 4
 abbrev pub least : ℕ → ℕ → ℕ → ℕ
-least stored most room = min stored (min most (room - 4))
+least stored most room = min stored (min most (room - headed))
 
 -- start moves on by k, round the end of a ring of n bytes; a sign of life where k is 1 or more
 unfoldable pub moved : ℕ → ℕ → Record → Record

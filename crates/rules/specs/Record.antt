@@ -44,8 +44,11 @@ mostRing = 65536
 abbrev pub endless : ℕ
 endless = greatest
 
+abbrev pub negatives : ℕ
+negatives = 2147483648
+
 abbrev pub signed : ℕ → ℤ
-signed c = cond (ltb c 2147483648) (pos c) (negsuc (greatest - c))
+signed c = cond (ltb c negatives) (pos c) (negsuc (greatest - c))
 
 -- ---- words
 -- Idle, Pending, Scanning, Finishing, Erred
