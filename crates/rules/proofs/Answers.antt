@@ -2,7 +2,7 @@
 use Prim.Native.Nat.{ℕ, _≤_, _<_}
 use mathlib.Core.Path.{_≡_, refl, sym, _∙_, ap, subst}
 use mathlib.Core.Logic.{_↔_, _≢_}
-use mathlib.Core.Bool.{Bool, true, false, _&&_, true≢false}
+use mathlib.Core.Bool.{Bool, true, false, _&&_, _||_, true≢false, false≢true}
 use mathlib.Core.List.{List, [], _∷_}
 use mathlib.Core.Option.{Option, some}
 use lib.Dec.{leb, ltb, eqb}
@@ -17,7 +17,7 @@ use Rattle.rules.specs.Moves.{withFeeder}
 use Rattle.rules.specs.Calls.{rowOf, StartScan, Start, Stop, Abort, GetDestination, Fetch, GetState, GetSideInformation, Load, Eject, Reset}
 use Rattle.rules.specs.Calls.{SetFeederMode, GetFeederState, GetFeederMode, Bytes, SideEnded, Tray, Path, Tick, Call, scan, feeder, report, Reason}
 use Rattle.rules.specs.Calls.{n604, n601, n712, n404, n501, n711, n713, n603, numberOf, named, State, Outcome, Line, refuse, leaving, refused, answer}
-use Rattle.rules.specs.Machine.{notHeld, notOurs, scanRefusals, feederRefusals, reportRefusals, refusals, scanEffect, feederEffect, reportEffect}
+use Rattle.rules.specs.Machine.{start, notHeld, notOurs, scanRefusals, feederRefusals, reportRefusals, refusals, scanEffect, feederEffect, reportEffect}
 use Rattle.rules.specs.Machine.{effect, lines, step}
 use Rattle.rules.specs.Watch.{scanOf, taken, sign}
 use Rattle.rules.specs.Promises.{below, bears, First, noLine, refuses, passes, leaves, goes, OneOf, zero, here, there, asItWas, byLoad, Refusal}
@@ -54,32 +54,60 @@ answers (refuse n false ∷ ls) s c o e = passes refl (answers ls s c o e)
 answers (leaving n true r ∷ ls) s c o e = leaves refl
 answers (leaving n false r ∷ ls) s c o e = goes refl (answers ls s c o e)
 
--- an accepted call answers 0
-accepts : (c : Call) (s : State) → effect c s .number ≡ 0
-unfolding effect scanEffect feederEffect reportEffect
-accepts (scan (StartScan from c append asked)) s = refl
-accepts (scan (Start j from c)) s = refl
-accepts (scan (Stop j)) s = refl
-accepts (scan (Abort j)) s = refl
-accepts (scan (GetDestination j)) s = refl
-accepts (scan (Fetch called most reply)) s = refl
-accepts (scan GetState) s = refl
-accepts (scan GetSideInformation) s = refl
-accepts (feeder (Load j)) s = refl
-accepts (feeder (Eject j v)) s = refl
-accepts (feeder (Reset j)) s = refl
-accepts (feeder (SetFeederMode j m)) s = refl
-accepts (feeder GetFeederState) s = refl
-accepts (feeder GetFeederMode) s = refl
-accepts (report (Bytes bs)) s = refl
-accepts (report SideEnded) s = refl
-accepts (report (Tray v)) s = refl
-accepts (report (Path v)) s = refl
-accepts (report Tick) s = refl
+-- ---- what the calls' lists and effects have in common, call by call
+abbrev reasons : List Line → List Reason
+reasons [] = []
+reasons (refuse n t ∷ ls) = n ∷ reasons ls
+reasons (leaving n t r ∷ ls) = n ∷ reasons ls
+
+-- no line leaves anything but all as it was
+abbrev keeping : List Line → Bool
+keeping [] = true
+keeping (refuse n t ∷ ls) = keeping ls
+keeping (leaving n t r ∷ ls) = false
+
+abbrev isLoad : Call → Bool
+isLoad (scan c) = false
+isLoad (feeder (Load j)) = true
+isLoad (feeder (Eject j v)) = false
+isLoad (feeder (Reset j)) = false
+isLoad (feeder (SetFeederMode j m)) = false
+isLoad (feeder GetFeederState) = false
+isLoad (feeder GetFeederMode) = false
+isLoad (report c) = false
+
+-- accepted it answers 0; its list has the reasons named for it, in the table's order; Load's alone leaves anything
+record Formed (c : Call) (s : State) : Type 0 where
+  accepts : effect c s .number ≡ 0
+  names : reasons (refusals c s) ≡ named c
+  order : below 1 (named c) ≡ true
+  keeps : (isLoad c || keeping (refusals c s)) ≡ true
+
+formed : (c : Call) (s : State) → Formed c s
+unfolding effect scanEffect feederEffect reportEffect refusals scanRefusals feederRefusals reportRefusals
+formed (scan (StartScan from c append asked)) s = record { accepts = refl; names = refl; order = refl; keeps = refl }
+formed (scan (Start j from c)) s = record { accepts = refl; names = refl; order = refl; keeps = refl }
+formed (scan (Stop j)) s = record { accepts = refl; names = refl; order = refl; keeps = refl }
+formed (scan (Abort j)) s = record { accepts = refl; names = refl; order = refl; keeps = refl }
+formed (scan (GetDestination j)) s = record { accepts = refl; names = refl; order = refl; keeps = refl }
+formed (scan (Fetch called most reply)) s = record { accepts = refl; names = refl; order = refl; keeps = refl }
+formed (scan GetState) s = record { accepts = refl; names = refl; order = refl; keeps = refl }
+formed (scan GetSideInformation) s = record { accepts = refl; names = refl; order = refl; keeps = refl }
+formed (feeder (Load j)) s = record { accepts = refl; names = refl; order = refl; keeps = refl }
+formed (feeder (Eject j v)) s = record { accepts = refl; names = refl; order = refl; keeps = refl }
+formed (feeder (Reset j)) s = record { accepts = refl; names = refl; order = refl; keeps = refl }
+formed (feeder (SetFeederMode j m)) s = record { accepts = refl; names = refl; order = refl; keeps = refl }
+formed (feeder GetFeederState) s = record { accepts = refl; names = refl; order = refl; keeps = refl }
+formed (feeder GetFeederMode) s = record { accepts = refl; names = refl; order = refl; keeps = refl }
+formed (report (Bytes bs)) s = record { accepts = refl; names = refl; order = refl; keeps = refl }
+formed (report SideEnded) s = record { accepts = refl; names = refl; order = refl; keeps = refl }
+formed (report (Tray v)) s = record { accepts = refl; names = refl; order = refl; keeps = refl }
+formed (report (Path v)) s = record { accepts = refl; names = refl; order = refl; keeps = refl }
+formed (report Tick) s = record { accepts = refl; names = refl; order = refl; keeps = refl }
 
 first-of : (s : State) (c : Call) → First (step s c .number) (lines c s)
 unfolding step
-first-of s c = answers (lines c s) s c (effect c s) (accepts c s)
+first-of s c = answers (lines c s) s c (effect c s) (formed c s .accepts)
 
 pub in-order : (s : State) (c : Call) (n : ℕ) → (step s c .number ≡ n) ↔ First n (lines c s)
 in-order s c n = (
@@ -88,33 +116,6 @@ in-order s c n = (
 )
 
 -- ---- the numbers named
-abbrev reasons : List Line → List Reason
-reasons [] = []
-reasons (refuse n t ∷ ls) = n ∷ reasons ls
-reasons (leaving n t r ∷ ls) = n ∷ reasons ls
-
-pub as-named : (c : Call) (s : State) → reasons (refusals c s) ≡ named c
-unfolding refusals scanRefusals feederRefusals reportRefusals
-as-named (scan (StartScan from c append asked)) s = refl
-as-named (scan (Start j from c)) s = refl
-as-named (scan (Stop j)) s = refl
-as-named (scan (Abort j)) s = refl
-as-named (scan (GetDestination j)) s = refl
-as-named (scan (Fetch called most reply)) s = refl
-as-named (scan GetState) s = refl
-as-named (scan GetSideInformation) s = refl
-as-named (feeder (Load j)) s = refl
-as-named (feeder (Eject j v)) s = refl
-as-named (feeder (Reset j)) s = refl
-as-named (feeder (SetFeederMode j m)) s = refl
-as-named (feeder GetFeederState) s = refl
-as-named (feeder GetFeederMode) s = refl
-as-named (report (Bytes bs)) s = refl
-as-named (report SideEnded) s = refl
-as-named (report (Tray v)) s = refl
-as-named (report (Path v)) s = refl
-as-named (report Tick) s = refl
-
 first-named : {n : ℕ} {ls : List Line} → First n ls → OneOf n (reasons ls)
 first-named noLine = zero
 first-named (refuses e) = here
@@ -123,7 +124,7 @@ first-named (leaves e) = here
 first-named (goes e p) = there (first-named p)
 
 pub only-named : (s : State) (c : Call) → OneOf (step s c .number) (n604 ∷ named c)
-only-named s c = subst (λ (rs : List Reason). OneOf (step s c .number) (n604 ∷ rs)) (as-named c s) (first-named (first-of s c))
+only-named s c = subst (λ (rs : List Reason). OneOf (step s c .number) (n604 ∷ rs)) (formed c s .names) (first-named (first-of s c))
 
 -- ---- what holds of each answer
 -- no test of the list holds
@@ -153,33 +154,28 @@ Unloading P s c =
     (j : ℕ) → c ≡ feeder (Load j) → busy (s .box .feeder .state) ≡ false → stuck (s .box .feeder .state) ≡ false
     → P (refused n713 (withFeeder (unloads (s .box .feeder)) (s .box)) s c)
 
-leaves-of : (P : Outcome → Type 0) (s : State) (c : Call) → Unloading P s c → Leaves P (refusals c s) s c
-unfolding refusals scanRefusals feederRefusals reportRefusals
-leaves-of P s (scan (StartScan from c append asked)) u = λ _ _ _ _. tt
-leaves-of P s (scan (Start j from c)) u = λ _ _ _ _ _. tt
-leaves-of P s (scan (Stop j)) u = λ _. tt
-leaves-of P s (scan (Abort j)) u = λ _. tt
-leaves-of P s (scan (GetDestination j)) u = λ _. tt
-leaves-of P s (scan (Fetch called most reply)) u = λ _ _. tt
-leaves-of P s (scan GetState) u = tt
-leaves-of P s (scan GetSideInformation) u = tt
-leaves-of P s (feeder (Load j)) u = λ _ b e. (u j refl b e, λ _. tt)
-leaves-of P s (feeder (Eject j v)) u = λ _ _ _ _. tt
-leaves-of P s (feeder (Reset j)) u = λ _ _. tt
-leaves-of P s (feeder (SetFeederMode j m)) u = λ _ _ _. tt
-leaves-of P s (feeder GetFeederState) u = tt
-leaves-of P s (feeder GetFeederMode) u = tt
-leaves-of P s (report (Bytes bs)) u = λ _ _. tt
-leaves-of P s (report SideEnded) u = λ _. tt
-leaves-of P s (report (Tray v)) u = λ _. tt
-leaves-of P s (report (Path v)) u = λ _. tt
-leaves-of P s (report Tick) u = tt
+keeping-leaves : (P : Outcome → Type 0) (ls : List Line) (s : State) (c : Call) → keeping ls ≡ true → Leaves P ls s c
+keeping-leaves P [] s c e = tt
+keeping-leaves P (refuse n t ∷ ls) s c e = λ _. keeping-leaves P ls s c e
+keeping-leaves P (leaving n t r ∷ ls) s c e = absurd (false≢true e)
+
+leaves-of : (P : Outcome → Type 0) (s : State) (c : Call) → Unloading P s c → (isLoad c || keeping (refusals c s)) ≡ true
+    → Leaves P (refusals c s) s c
+unfolding refusals feederRefusals
+leaves-of P s (scan c) u e = keeping-leaves P (refusals (scan c) s) s (scan c) e
+leaves-of P s (feeder (Load j)) u e = λ _ b x. (u j refl b x, λ _. tt)
+leaves-of P s (feeder (Eject j v)) u e = λ _ _ _ _. tt
+leaves-of P s (feeder (Reset j)) u e = λ _ _. tt
+leaves-of P s (feeder (SetFeederMode j m)) u e = λ _ _ _. tt
+leaves-of P s (feeder GetFeederState) u e = tt
+leaves-of P s (feeder GetFeederMode) u e = tt
+leaves-of P s (report c) u e = keeping-leaves P (refusals (report c) s) s (report c) e
 
 -- a property of every refusal and of the effect is one of the step
 pub by-step : (P : Outcome → Type 0) (s : State) (c : Call) → ((n : Reason) → P (refused n (s .box) s c)) → Unloading P s c
     → (Clear (refusals c s) → P (effect c s)) → P (step s c)
 unfolding step
-by-step P s c kept u ok = by-tests P (lines c s) s c (effect c s) kept (λ _. leaves-of P s c u) (λ k. ok (k .1))
+by-step P s c kept u ok = by-tests P (lines c s) s c (effect c s) kept (λ _. leaves-of P s c u (formed c s .keeps)) (λ k. ok (k .1))
 
 -- a refused call leaves all as it was and reports nothing, or is Load's 713
 pub refused-keeps : (s : State) (c : Call) → eqb (step s c .number) 0 ≡ false → Refusal s c (step s c)
@@ -187,7 +183,7 @@ refused-keeps s c =
     by-step (λ (o : Outcome). eqb (o .number) 0 ≡ false → Refusal s c o) s c
     (λ n _. record { values = refl; reply = refl; left = asItWas refl })
     (λ j e _ _ _. record { values = refl; reply = refl; left = byLoad j e refl refl })
-    (λ _ e. absurd (true≢false (sym (ap (λ (n : ℕ). eqb n 0) (accepts c s)) ∙ e)))
+    (λ _ e. absurd (true≢false (sym (ap (λ (n : ℕ). eqb n 0) (formed c s .accepts)) ∙ e)))
 
 -- a sound record is not refused by 604
 abbrev pub Good : State → Type 0
@@ -199,25 +195,7 @@ plain s c h = rw (from-sound (s .box) (length (s .bytes)) h)
 
 -- ---- the lists stand in the order of the table, so 604 is in none of them
 pub table-order : (c : Call) → below 1 (named c) ≡ true
-table-order (scan (StartScan from c append asked)) = refl
-table-order (scan (Start j from c)) = refl
-table-order (scan (Stop j)) = refl
-table-order (scan (Abort j)) = refl
-table-order (scan (GetDestination j)) = refl
-table-order (scan (Fetch called most reply)) = refl
-table-order (scan GetState) = refl
-table-order (scan GetSideInformation) = refl
-table-order (feeder (Load j)) = refl
-table-order (feeder (Eject j v)) = refl
-table-order (feeder (Reset j)) = refl
-table-order (feeder (SetFeederMode j m)) = refl
-table-order (feeder GetFeederState) = refl
-table-order (feeder GetFeederMode) = refl
-table-order (report (Bytes bs)) = refl
-table-order (report SideEnded) = refl
-table-order (report (Tray v)) = refl
-table-order (report (Path v)) = refl
-table-order (report Tick) = refl
+table-order c = formed c (start []) .order
 
 lower : (r : Reason) (n : ℕ) → 1 ≤ n → ltb n (rowOf r) ≡ true → (numberOf r ≢ 604) × (1 ≤ rowOf r)
 lower n604 n h e = absurd (none-lower n h (ltb-true n 1 e))
@@ -239,8 +217,8 @@ one-below (there {r = r} p) k h e = one-below p (rowOf r) (lower r k h (and-l (l
 
 pub not-604 : (s : State) (c : Call) → Good s → step s c .number ≢ 604
 not-604 s c h =
-    let p : First (step s c .number) (refusals c s) = rw (plain s c h) (answers (refusals c s) s c (effect c s) (accepts c s)) in
-    let o : OneOf (step s c .number) (named c) = subst (OneOf (step s c .number)) (as-named c s) (first-named p) in
+    let p : First (step s c .number) (refusals c s) = rw (plain s c h) (answers (refusals c s) s c (effect c s) (formed c s .accepts)) in
+    let o : OneOf (step s c .number) (named c) = subst (OneOf (step s c .number)) (formed c s .names) (first-named p) in
     one-below o 1 (omega arith) (table-order c)
 
 -- ---- a refused call is no sign of life, and a call that bears another number is refused
@@ -273,7 +251,7 @@ pub refused-silent : (s : State) (c : Call) → taken (step s c) ≡ false → s
 refused-silent s c =
     by-step (λ (o : Outcome). taken o ≡ false → sign c (scanOf s) o ≡ false) s c (λ n _. refusal-silent s (s .box .feeder) n c)
     (λ _ _ _ _ _. refusal-silent s (unloads (s .box .feeder)) n713 c)
-    (λ _ e. absurd (true≢false (sym (ap (λ (n : ℕ). eqb n 0) (accepts c s)) ∙ e)))
+    (λ _ e. absurd (true≢false (sym (ap (λ (n : ℕ). eqb n 0) (formed c s .accepts)) ∙ e)))
 
 -- what the job tests say, for scan calls and for feeder calls
 held-by : (s : State) {i j : ℕ} → notHeld i (s .box) ≡ false → _≡_ {A = Option ℕ} (some i) (some j) → j ≡ s .box .job .held
