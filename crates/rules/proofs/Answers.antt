@@ -19,7 +19,7 @@ use Rattle.rules.specs.Calls.{SetFeederMode, GetFeederState, GetFeederMo
 use Rattle.rules.specs.Calls.{n604, n601, n712, n404, n501, n711, n713, n603, numberOf, named, State, Outcome, Line, refuse, leaving, refused, answer}
 use Rattle.rules.specs.Machine.{start, notHeld, notOurs, scanRefusals, feederRefusals, reportRefusals, refusals, scanEffect, feederEffect, reportEffect}
 use Rattle.rules.specs.Machine.{effect, lines, step}
-use Rattle.rules.specs.Watch.{scanOf, taken, sign}
+use Rattle.rules.specs.Watch.{scanOf, wasAccepted, sign}
 use Rattle.rules.specs.Promises.{below, bears, First, noLine, refuses, passes, leaves, goes, OneOf, zero, here, there, asItWas, byLoad, Refusal}
 use Rattle.rules.proofs.Choice.{or-r, and-l, and-r}
 use Rattle.rules.proofs.Sound.{Sound, from-sound}
@@ -247,9 +247,9 @@ module _ (s : State) (f : Feeder) (n : Reason) where
   refusal-silent (report (Path v)) = scans-on (scanOf s)
   refusal-silent (report Tick) = refl
 
-pub refused-silent : (s : State) (c : Call) → taken (step s c) ≡ false → sign c (scanOf s) (step s c) ≡ false
+pub refused-silent : (s : State) (c : Call) → wasAccepted (step s c) ≡ false → sign c (scanOf s) (step s c) ≡ false
 refused-silent s c =
-    by-step (λ (o : Outcome). taken o ≡ false → sign c (scanOf s) o ≡ false) s c (λ n _. refusal-silent s (s .box .feeder) n c)
+    by-step (λ (o : Outcome). wasAccepted o ≡ false → sign c (scanOf s) o ≡ false) s c (λ n _. refusal-silent s (s .box .feeder) n c)
     (λ _ _ _ _ _. refusal-silent s (unloads (s .box .feeder)) n713 c)
     (λ _ e. absurd (true≢false (sym (ap (λ (n : ℕ). eqb n 0) (formed c s .accepts)) ∙ e)))
 
@@ -282,6 +282,6 @@ bearing s (feeder GetFeederState) j e k = cc
 bearing s (feeder GetFeederMode) j e k = cc
 bearing s (report c) j e k = cc
 
-pub others-refused : (s : State) (c : Call) (j : ℕ) → bears c ≡ some j → j ≢ s .box .job .held → taken (step s c) ≡ false
+pub others-refused : (s : State) (c : Call) (j : ℕ) → bears c ≡ some j → j ≢ s .box .job .held → wasAccepted (step s c) ≡ false
 others-refused s c j e d =
-    by-step (λ (o : Outcome). taken o ≡ false) s c nonzero (λ _ _ _ _. refl) (λ k. absurd (d (bearing s c j e k)))
+    by-step (λ (o : Outcome). wasAccepted o ≡ false) s c nonzero (λ _ _ _ _. refl) (λ k. absurd (d (bearing s c j e k)))

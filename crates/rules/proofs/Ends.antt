@@ -16,7 +16,7 @@ use Rattle.rules.specs.Moves as moves
 use Rattle.rules.specs.Moves.{settled, given, readied, begun, released, drained, least, moved, filled, finished}
 use Rattle.rules.specs.Calls.{Start, Stop, Fetch, SideEnded, Tick, Call, scan, report, State, Values, nothing, picture, Outcome, to}
 use Rattle.rules.specs.Machine.{accepted, scanEffect, reportEffect, effect, step}
-use Rattle.rules.specs.Watch.{scanOf, timeIn, sign, ticks, counting, seconds, orElse, granted, World, next, live, due}
+use Rattle.rules.specs.Watch.{scanOf, timeIn, sign, ticks, counting, seconds, orElse, timeAnswered, World, after, live, dueSecond}
 use Rattle.rules.specs.Promises.{OnTime, EndsBy, time, stop, abort, lastFetch, sideEnd, Fate, held, over, Silent, ticksIn, NotPutOff}
 use Rattle.rules.proofs.Choice.{clash, and-l, opened}
 use Rattle.rules.proofs.Sound.{holding}
@@ -44,7 +44,7 @@ at-last : {l q s d : ℕ} → l ≤ q + 1 → q < l → d ≡ l → s ≡ q → 
 at-last a b c e = omega arith
 
 module _ (w : World) (t : Timely w) (i : idle (scanOf (w .now)) ≡ false) where
-  due-is : due w ≡ moves.due (w .now .box)
+  due-is : dueSecond w ≡ moves.due (w .now .box)
   due-is = ap (limit (scanOf (w .now))) (t .grant)
 
   in-time : w .now .box .job .quiet < moves.due (w .now .box)
@@ -163,12 +163,12 @@ deed-untimed (second g) i = refl
 
 -- a call that is no sign of life, the job held after it: the same second is due, and only a Tick moves the count
 record SecondKept (w : World) (c : Call) : Type 0 where
-  same : due (next w c) ≡ due w
-  count : seconds (next w c .past) ≡ counting false (ticks c) (seconds (w .past))
+  same : dueSecond (after w c) ≡ dueSecond w
+  count : seconds (after w c .past) ≡ counting false (ticks c) (seconds (w .past))
 
 second-kept : (w : World) (c : Call) → Good (w .now) → sign c (scanOf (w .now)) (step (w .now) c) ≡ false
     → idle (scanOf (step (w .now) c .state)) ≡ false → SecondKept w c
-unfolding next
+unfolding after
 second-kept w c h g a = go (deed-counts h d .count a)
   where
     d : Deed (w .now) c (step (w .now) c)
@@ -177,13 +177,13 @@ second-kept w c h g a = go (deed-counts h d .count a)
     go : Counted (w .now) c (step (w .now) c) → SecondKept w c
     go (alive s z) = clash s g
     go (silent s i q e) =
-        record { same = ap₂ limit e (ap (λ (x : Option ℕ). orElse x (granted (w .past))) (deed-untimed d i)); count = rw g }
+        record { same = ap₂ limit e (ap (λ (x : Option ℕ). orElse x (timeAnswered (w .past))) (deed-untimed d i)); count = rw g }
 
 -- nobody held, and no sign of life: nobody is held after it
 idle-on : (cs : List Call) (w : World) → Good (w .now) → idle (scanOf (w .now)) ≡ true → Silent w cs → idle (scanOf (live w cs .now)) ≡ true
-unfolding live next
+unfolding live after
 idle-on [] w h i s = i
-idle-on (c ∷ cs) w h i s = idle-on cs (next w c) (step-sound (w .now) c h) (go (idle (scanOf (step (w .now) c .state))) refl) (s .1)
+idle-on (c ∷ cs) w h i s = idle-on cs (after w c) (step-sound (w .now) c h) (go (idle (scanOf (step (w .now) c .state))) refl) (s .1)
   where
     go : (t : Bool) → idle (scanOf (step (w .now) c .state)) ≡ t → t ≡ true
     go true e = refl
@@ -199,11 +199,11 @@ added false a b e f = omega arith
 
 -- one call more in front
 put-one : (c : Call) (cs : List Call) (w : World) → Timely w → Silent w (c ∷ cs)
-    → (Timely (next w c) → idle (scanOf (next w c .now)) ≡ false → Silent (next w c) cs → NotPutOff (next w c) (live (next w c) cs) cs)
-    → (b : Bool) → idle (scanOf (next w c .now)) ≡ b → NotPutOff w (live (next w c) cs) (c ∷ cs)
-unfolding next
+    → (Timely (after w c) → idle (scanOf (after w c .now)) ≡ false → Silent (after w c) cs → NotPutOff (after w c) (live (after w c) cs) cs)
+    → (b : Bool) → idle (scanOf (after w c .now)) ≡ b → NotPutOff w (live (after w c) cs) (c ∷ cs)
+unfolding after
 put-one c cs w t s rest true e =
-    let z = idle-on cs (next w c) (step-sound (w .now) c (t .good)) e (s .1) in
+    let z = idle-on cs (after w c) (step-sound (w .now) c (t .good)) e (s .1) in
     record { same = λ h. clash z h; count = λ h. clash z h; over = λ _. is-idle _ z }
 put-one c cs w t s rest false e =
     let k = second-kept w c (t .good) (s .0) e in
@@ -225,4 +225,4 @@ not-put-off [] w t i s =
   where
     soon-enough : {a d : ℕ} → a < d → d ≤ a + 0 → ⊥
     soon-enough h e = omega arith
-not-put-off (c ∷ cs) w t i s = put-one c cs w t s (not-put-off cs (next w c)) (idle (scanOf (next w c .now))) refl
+not-put-off (c ∷ cs) w t i s = put-one c cs w t s (not-put-off cs (after w c)) (idle (scanOf (after w c .now))) refl

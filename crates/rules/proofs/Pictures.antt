@@ -16,7 +16,8 @@ use Rattle.rules.specs.Moves.{settled, given, readied, begun, released, 
 use Rattle.rules.specs.Calls.{StartScan, Start, Stop, SideEnded, Tick, Call, scan, report, State, nothing, time, Outcome}
 use Rattle.rules.specs.Machine.{accepted, scanEffect, reportEffect, step}
 use Rattle.rules.specs.Watch as watch
-use Rattle.rules.specs.Watch.{scanOf, countIn, bytesIn, timeIn, plusOne, ordinal, Tagged, tag, byteOf, brought, wasted, waiting, World, next, live, got}
+use Rattle.rules.specs.Watch.{scanOf, countIn, bytesIn, timeIn, plusOne, ordinal, Tagged, tag, byteOf, brought, wasted, waiting, World, after, live}
+use Rattle.rules.specs.Watch.{got}
 use Rattle.rules.specs.Promises.{All, Yields, Ended, before, idles}
 use Rattle.rules.proofs.Choice.{clash, opened}
 use Rattle.rules.proofs.Sound.{Phase}
@@ -172,7 +173,7 @@ pub record Waiting (w : World) : Type 0 where
   pub agrees : map byteOf (waiting (w .past)) ≡ content (w .now)
   pub ours : Ours (ordinal (w .past)) (waiting (w .past))
   pub gone : List Tagged
-  pub among : watch.accepted (w .past) ≡ gone ++ waiting (w .past)
+  pub among : watch.bytesAccepted (w .past) ≡ gone ++ waiting (w .past)
 
 idle-waiting : (w : World) → Waiting w → idle (scanOf (w .now)) ≡ true → waiting (w .past) ≡ []
 idle-waiting w h i = map-none _ (h .agrees ∙ nothing-there (w .now) (h .good) (rw i))
@@ -183,8 +184,8 @@ among-on a g q t k e =
     ap (λ (l : List Tagged). l ++ t) (e ∙ ap (λ (l : List Tagged). g ++ l) (sym (take-append-drop k q)) ∙ sym (append-assoc g (take k q) (drop k q)))
     ∙ append-assoc (g ++ take k q) (drop k q) t
 
-pub next-waiting : (w : World) (c : Call) → Waiting w → Waiting (next w c)
-unfolding next
+pub next-waiting : (w : World) (c : Call) → Waiting w → Waiting (after w c)
+unfolding after
 next-waiting w c h = go (wasted (scanOf (o .state))) refl
   where
     o : Outcome
@@ -203,7 +204,7 @@ next-waiting w c h = go (wasted (scanOf (o .state))) refl
     k = countIn (o .values)
 
     e : ℕ
-    e = ordinal (next w c .past)
+    e = ordinal (after w c .past)
 
     new : List Tagged
     new = map (tag e) (brought c o)
@@ -217,13 +218,13 @@ next-waiting w c h = go (wasted (scanOf (o .state))) refl
     present : Ours e q
     present = still (timeIn (o .values)) refl (idle (scanOf (w .now))) refl
 
-    go : (t : Bool) → wasted (scanOf (o .state)) ≡ t → Waiting (next w c)
+    go : (t : Bool) → wasted (scanOf (o .state)) ≡ t → Waiting (after w c)
     go true z =
         record {
           good = g;
           agrees = rw z (sym (nothing-there (o .state) g z));
           ours = rw z tt;
-          gone = watch.accepted (next w c .past);
+          gone = watch.bytesAccepted (after w c .past);
           among = rw z (sym (append-nil _));
         }
     go false z =
@@ -236,13 +237,13 @@ next-waiting w c h = go (wasted (scanOf (o .state))) refl
               ∙ sym (deed-flows (h .good) d .flow z));
           ours = rw z (ours-append e (drop k q) new (ours-drop e k q present) (ours-tagged e (brought c o)));
           gone = h .gone ++ take k q;
-          among = rw z (among-on (watch.accepted (w .past)) (h .gone) q new k (h .among));
+          among = rw z (among-on (watch.bytesAccepted (w .past)) (h .gone) q new k (h .among));
         }
 
 pub live-waiting : (cs : List Call) (w : World) → Waiting w → Waiting (live w cs)
 unfolding live
 live-waiting [] w h = h
-live-waiting (c ∷ cs) w h = live-waiting cs (next w c) (next-waiting w c h)
+live-waiting (c ∷ cs) w h = live-waiting cs (after w c) (next-waiting w c h)
 
 -- ---- what a call yields
 pub yields : (w : World) → Waiting w → (c : Call) → Yields w (step (w .now) c)
@@ -262,8 +263,8 @@ yields w h c =
     }
 
 -- ---- a job that has ended stays ended, and yields nothing more
-next-ended : (j : ℕ) (w : World) (c : Call) → Waiting w → Ended j w → Ended j (next w c)
-unfolding next
+next-ended : (j : ℕ) (w : World) (c : Call) → Waiting w → Ended j w → Ended j (after w c)
+unfolding after
 next-ended j w c h x = go x (timeIn (o .values)) refl
   where
     o : Outcome
@@ -277,16 +278,22 @@ next-ended j w c h x = go x (timeIn (o .values)) refl
     still true e i t = e
     still false e i t = clash (deed-wakes (deed (w .now) (h .good) c) i e .1) (ap opened t)
 
-    go : Ended j w → (t : Option ℕ) → timeIn (o .values) ≡ t → Ended j (next w c)
+    go : Ended j w → (t : Option ℕ) → timeIn (o .values) ≡ t → Ended j (after w c)
     go (before l) t e = before (more (timeIn (o .values)) l)
     go (idles n i) none e =
         idles (n ∙ sym (ap (λ (x : Option ℕ). plusOne x (ordinal (w .past))) e)) (is-idle _ (still (idle (scanOf (o .state))) refl (ap idle i) e))
     go (idles n i) (some t) e = before (subst (λ (x : Option ℕ). j < plusOne x (ordinal (w .past))) (sym e) (omega arith))
 
+-- a held job that is no longer held has ended
+pub just-ended : (w : World) (c : Call) → Good (w .now) → idle (scanOf (w .now)) ≡ false → scanOf (step (w .now) c .state) ≡ Scan.Idle
+    → Ended (ordinal (w .past)) (after w c)
+unfolding after
+just-ended w c h i e = idles (sym (ap (λ (x : Option ℕ). plusOne x (ordinal (w .past))) (deed-untimed (deed (w .now) h c) i))) e
+
 pub live-ended : (j : ℕ) (cs : List Call) (w : World) → Waiting w → Ended j w → Ended j (live w cs)
 unfolding live
 live-ended j [] w h x = x
-live-ended j (c ∷ cs) w h x = live-ended j cs (next w c) (next-waiting w c h) (next-ended j w c h x)
+live-ended j (c ∷ cs) w h x = live-ended j cs (after w c) (next-waiting w c h) (next-ended j w c h x)
 
 pub ended-yields : (j : ℕ) (w : World) → Waiting w → Ended j w → (c : Call) → All (λ (t : Tagged). j < t .job) (got w (step (w .now) c))
 ended-yields j w h (before l) c =

@@ -11,12 +11,13 @@ use lib.IntN.{pos, negsuc}
 use lib.ListN.{length}
 use native.Mathlib.Omega.{arith}
 use borrow.Author.Tests.{eqb-true, eq-eqb, le-leb, leb-true, ltb-false, ltb-true}
+use Rattle.rules.specs.declared.Scan.{Scan}
 use Rattle.rules.specs.declared.Record.{Record}
 use Rattle.rules.specs.Record.{greatest, negatives, endless, mostSides, signed, counted, idle, sound}
 use Rattle.rules.specs.Moves.{nextJob}
 use Rattle.rules.specs.Calls.{Tick, Call, report, n604, named, State, Outcome}
 use Rattle.rules.specs.Machine.{lines, step, Ran, run, start}
-use Rattle.rules.specs.Watch.{taken, sign, scanOf, Tagged, World, next, live, born, lived, told, got}
+use Rattle.rules.specs.Watch.{ordinal, wasAccepted, sign, scanOf, Tagged, World, after, live, born, lived, told, got}
 use Rattle.rules.specs.Promises.{below, bears, All, Ringed, First, OneOf, Refusal, Sides, runBy, OnTime, Fate, Silent, NotPutOff, Yields, Ended}
 use Rattle.rules.specs.Table.{Case, failing, table, starred-hold, edges-hold, slips-hold, refusing-hold, every604-hold, readings-hold}
 use Rattle.rules.proofs.Choice.{choice}
@@ -26,7 +27,7 @@ use Rattle.rules.proofs.Answers.{Good}
 use Rattle.rules.proofs.Deeds as deeds
 use Rattle.rules.proofs.Time.{Timely, live-timely}
 use Rattle.rules.proofs.Ends.{on-time-at, fate, not-put-off}
-use Rattle.rules.proofs.Pictures.{Waiting, live-waiting, yields, live-ended, ended-yields}
+use Rattle.rules.proofs.Pictures.{just-ended, Waiting, live-waiting, yields, live-ended, ended-yields}
 
 -- ---- 1. In order: the number is n exactly when n's test holds and no earlier one does, and 0 exactly when none holds
 pub in-order : (s : State) (c : Call) (n : ℕ) → (step s c .number ≡ n) ↔ First n (lines c s)
@@ -83,17 +84,17 @@ never-604 ring l cs = outcomes-604 cs (start ring) (fresh-good ring l)
 
 -- ---- the watcher watches the machine of demand 2
 live-run : (cs : List Call) (w : World) → live w cs .now ≡ run (w .now) cs .end
-unfolding live next run
+unfolding live after run
 live-run [] w = refl
-live-run (c ∷ cs) w = live-run cs (next w c)
+live-run (c ∷ cs) w = live-run cs (after w c)
 
 pub lived-run : (ring : List ℕ) (cs : List Call) → lived ring cs .now ≡ run (start ring) cs .end
 lived-run ring cs = live-run cs (born ring)
 
 live-told : (cs : List Call) (w : World) → told (live w cs .past) [] ≡ told (w .past) (run (w .now) cs .outcomes)
-unfolding live next run
+unfolding live after run
 live-told [] w = refl
-live-told (c ∷ cs) w = live-told cs (next w c)
+live-told (c ∷ cs) w = live-told cs (after w c)
 
 pub lived-told : (ring : List ℕ) (cs : List Call) → told (lived ring cs .past) [] ≡ run (start ring) cs .outcomes
 lived-told ring cs = live-told cs (born ring)
@@ -122,15 +123,20 @@ pub never-put-off : (ring : List ℕ) → Ringed ring → (cs stretch : List Cal
 never-put-off ring l cs stretch i s = not-put-off stretch (lived ring cs) (lived-timely ring l cs) i s
 
 -- a refused call is no sign of life, and a call that bears another job's number is refused
-pub refused-silent : (s : State) (c : Call) → taken (step s c) ≡ false → sign c (scanOf s) (step s c) ≡ false
+pub refused-silent : (s : State) (c : Call) → wasAccepted (step s c) ≡ false → sign c (scanOf s) (step s c) ≡ false
 refused-silent s c = answers.refused-silent s c
 
-pub others-refused : (s : State) (c : Call) (j : ℕ) → bears c ≡ some j → j ≢ s .box .job .held → taken (step s c) ≡ false
+pub others-refused : (s : State) (c : Call) (j : ℕ) → bears c ≡ some j → j ≢ s .box .job .held → wasAccepted (step s c) ≡ false
 others-refused s c j = answers.others-refused s c j
 
 -- ---- 7. Pictures: what any call yields was accepted for the job then held, in order
 pub provenance : (ring : List ℕ) → Ringed ring → (cs : List Call) (c : Call) → Yields (lived ring cs) (step (lived ring cs .now) c)
 provenance ring l cs c = yields (lived ring cs) (lived-waiting ring l cs) c
+
+-- a job that was held and is no longer held has ended, however it ended
+pub over-ended : (ring : List ℕ) → Ringed ring → (cs : List Call) (c : Call) → idle (scanOf (lived ring cs .now)) ≡ false
+    → scanOf (step (lived ring cs .now) c .state) ≡ Scan.Idle → Ended (ordinal (lived ring cs .past)) (after (lived ring cs) c)
+over-ended ring l cs c i e = just-ended (lived ring cs) c (lived-timely ring l cs .good) i e
 
 -- from the second the j-th job has ended no call in any later list yields a byte but of a later job
 pub no-late-byte : (ring : List ℕ) → Ringed ring → (cs later : List Call) (j : ℕ) → Ended j (lived ring cs) → (c : Call)

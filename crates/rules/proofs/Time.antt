@@ -15,7 +15,7 @@ use Rattle.rules.specs.Moves as moves
 use Rattle.rules.specs.Moves.{settled, given, readied, begun, released, drained, least, moved, fetched, filled, finished}
 use Rattle.rules.specs.Calls.{StartScan, Start, Stop, Fetch, Bytes, SideEnded, Tick, Call, scan, report, State, nothing, time, Outcome}
 use Rattle.rules.specs.Machine.{accepted, scanEffect, reportEffect, step}
-use Rattle.rules.specs.Watch.{scanOf, timeIn, sign, ticks, counting, seconds, orElse, granted, World, next, live}
+use Rattle.rules.specs.Watch.{scanOf, timeIn, sign, ticks, counting, seconds, orElse, timeAnswered, World, after, live}
 use Rattle.rules.proofs.Choice.{clash, and-l}
 use Rattle.rules.proofs.Sound.{Phase}
 use Rattle.rules.proofs.Cases.{started-cases, stopped-cases, drained-cases, fetched-cases, sideEnded-cases, ticked-cases}
@@ -115,11 +115,11 @@ deed-counts {s} h (second g) =
 -- ---- over any list: the seconds counted are quiet, and the time answered is granted
 pub record Timely (w : World) : Type 0 where
   pub good : Good (w .now)
-  pub grant : granted (w .past) ≡ w .now .box .job .granted .seconds
+  pub grant : timeAnswered (w .past) ≡ w .now .box .job .granted .seconds
   pub count : idle (scanOf (w .now)) ≡ false → seconds (w .past) ≡ w .now .box .job .quiet
 
-pub next-timely : (w : World) (c : Call) → Timely w → Timely (next w c)
-unfolding next
+pub next-timely : (w : World) (c : Call) → Timely w → Timely (after w c)
+unfolding after
 next-timely w c h =
     let k = deed-counts (h .good) (deed (w .now) (h .good) c) in
     record {
@@ -128,11 +128,11 @@ next-timely w c h =
       count = λ i. counted-on (k .count i);
     }
   where
-    counted-on : Counted (w .now) c (step (w .now) c) → seconds (next w c .past) ≡ step (w .now) c .state .box .job .quiet
+    counted-on : Counted (w .now) c (step (w .now) c) → seconds (after w c .past) ≡ step (w .now) c .state .box .job .quiet
     counted-on (alive g z) = rw g (sym z)
     counted-on (silent g i q _) = rw (g, h .count i) (sym q)
 
 pub live-timely : (cs : List Call) (w : World) → Timely w → Timely (live w cs)
 unfolding live
 live-timely [] w h = h
-live-timely (c ∷ cs) w h = live-timely cs (next w c) (next-timely w c h)
+live-timely (c ∷ cs) w h = live-timely cs (after w c) (next-timely w c h)

@@ -17,7 +17,7 @@ use Rattle.rules.specs.Calls.{StartScan, Start, Stop, Abort, GetDestinat
 use Rattle.rules.specs.Calls.{GetFeederState, GetFeederMode, rowOf, Load, SideEnded, Tick, Call, scan, feeder, report, Reason, numberOf, State, nothing}
 use Rattle.rules.specs.Calls.{picture, Outcome, lent, Line, refuse, leaving, to}
 use Rattle.rules.specs.Machine.{Ran, step}
-use Rattle.rules.specs.Watch.{scanOf, bytesIn, countIn, sign, ticks, seconds, ordinal, Tagged, byteOf, accepted, World, next, due, got}
+use Rattle.rules.specs.Watch.{scanOf, bytesIn, countIn, sign, ticks, seconds, ordinal, Tagged, byteOf, bytesAccepted, World, after, dueSecond, got}
 
 -- every member of a list has a property
 abbrev pub All : {A : Type 0} → (A → Type 0) → List A → Type 0
@@ -75,10 +75,10 @@ runBy box s (c ∷ cs) =
 -- ---- demand 3
 -- the next Tick ends the job held, with FailureCode Timeout, exactly when the seconds then reach the limit; else it stays
 pub record OnTime (w : World) (o : Outcome) : Type 0 where
-  pub soon : seconds (w .past) < due w
-  pub ends : suc (seconds (w .past)) ≡ due w
+  pub soon : seconds (w .past) < dueSecond w
+  pub ends : suc (seconds (w .past)) ≡ dueSecond w
       → (scanOf (o .state) ≡ Scan.Idle) × (o .state .box .job .held ≡ 0) × (o .state .box .scanner .failure ≡ Failure.Timeout)
-  pub stays : suc (seconds (w .past)) < due w
+  pub stays : suc (seconds (w .past)) < dueSecond w
       → (scanOf (o .state) ≡ scanOf (w .now)) × (o .state .box .job .held ≡ w .now .box .job .held)
 
 -- the job number that a call bears
@@ -101,7 +101,7 @@ bears (report c) = none
 
 -- what may end the job held: that Tick, Stop in Pending or Erred, Abort, a drain step with a stop asked
 pub data EndsBy (w : World) (o : Outcome) : Call → Type 0 where
-  time : suc (seconds (w .past)) ≡ due w → EndsBy w o (report Tick)
+  time : suc (seconds (w .past)) ≡ dueSecond w → EndsBy w o (report Tick)
   stop : {j : ℕ} → j ≡ w .now .box .job .held → (pending (scanOf (w .now)) || erred (scanOf (w .now))) ≡ true → EndsBy w o (scan (Stop j))
   abort : {j : ℕ} → j ≡ w .now .box .job .held → EndsBy w o (scan (Abort j))
   lastFetch : {name reply bytes : List ℕ} {most k : ℕ} → on (w .now .box .job .stop) ≡ true → o .values ≡ picture k true bytes
@@ -116,7 +116,7 @@ pub data Fate (w : World) (c : Call) (o : Outcome) : Type 0 where
 -- a stretch of calls with no sign of life, and its Ticks
 abbrev pub Silent : World → List Call → Type 0
 Silent w [] = Unit {0}
-Silent w (c ∷ cs) = (sign c (scanOf (w .now)) (step (w .now) c) ≡ false) × Silent (next w c) cs
+Silent w (c ∷ cs) = (sign c (scanOf (w .now)) (step (w .now) c) ≡ false) × Silent (after w c) cs
 
 abbrev pub ticksIn : List Call → ℕ
 ticksIn [] = 0
@@ -125,9 +125,9 @@ ticksIn (c ∷ cs) = cond (ticks c) (suc (ticksIn cs)) (ticksIn cs)
 -- while the job is held after such a stretch from w to v, the second that was due is due and only Ticks moved the count;
 -- once the Ticks reach it the job is over
 pub record NotPutOff (w v : World) (cs : List Call) : Type 0 where
-  pub same : idle (scanOf (v .now)) ≡ false → due v ≡ due w
+  pub same : idle (scanOf (v .now)) ≡ false → dueSecond v ≡ dueSecond w
   pub count : idle (scanOf (v .now)) ≡ false → seconds (v .past) ≡ seconds (w .past) + ticksIn cs
-  pub over : due w ≤ seconds (w .past) + ticksIn cs → scanOf (v .now) ≡ Scan.Idle
+  pub over : dueSecond w ≤ seconds (w .past) + ticksIn cs → scanOf (v .now) ≡ Scan.Idle
 
 -- a fetch yields, in order, bytes that stand together among all the accepted ones, each accepted for the job held
 pub record Yields (w : World) (o : Outcome) : Type 0 where
@@ -136,7 +136,7 @@ pub record Yields (w : World) (o : Outcome) : Type 0 where
   pub ours : All (λ (t : Tagged). t .job ≡ ordinal (w .past)) (got w o)
   pub gone : List Tagged
   pub rest : List Tagged
-  pub among : accepted (w .past) ≡ gone ++ got w o ++ rest
+  pub among : bytesAccepted (w .past) ≡ gone ++ got w o ++ rest
 
 -- the j-th job has ended, however it ended
 pub data Ended (j : ℕ) (w : World) : Type 0 where

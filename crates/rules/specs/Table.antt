@@ -78,15 +78,19 @@ lineOf o =
 abbrev pub case : String → State → List Call → Call → List ℕ → Case
 case says s cs c l = record { says = says; right = same (lineOf (final s cs c)) l }
 
--- what it does not show: quiet, stop asked, DestinationID, the FailureCodes, MorePages, path, start, stored
-abbrev pub withinOf : Outcome → List ℕ
-withinOf o =
+-- what it does not show: quiet, stop asked, DestinationID, the scanner's and the feeder's FailureCode, MorePages, path, start, stored
+abbrev pub inside : ℕ → ℕ → ℕ → Failure → Failure → ℕ → ℕ → ℕ → ℕ → List ℕ
+inside quiet asked id scanFailure feedFailure tray path from count =
+    quiet ∷ asked ∷ id ∷ failureCode scanFailure ∷ failureCode feedFailure ∷ tray ∷ path ∷ from ∷ count ∷ []
+
+abbrev pub insideOf : Outcome → List ℕ
+insideOf o =
     let r = o .state .box in
-    r .job .quiet ∷ r .job .stop ∷ r .side .destination ∷ failureCode (r .scanner .failure) ∷ failureCode (r .feeder .failure)
-    ∷ r .feeder .tray ∷ r .feeder .path ∷ r .ring .start ∷ r .ring .stored ∷ []
+    inside (r .job .quiet) (r .job .stop) (r .side .destination) (r .scanner .failure) (r .feeder .failure) (r .feeder .tray) (r .feeder .path)
+    (r .ring .start) (r .ring .stored)
 
 abbrev pub within : String → State → List Call → Call → List ℕ → Case
-within says s cs c l = record { says = says; right = same (withinOf (final s cs c)) l }
+within says s cs c l = record { says = says; right = same (insideOf (final s cs c)) l }
 
 -- the ring and the reply at exit
 abbrev pub ringed : String → State → List Call → Call → List ℕ → Case
@@ -179,20 +183,20 @@ starred =
 -- ---- DestinationID rises by one, 4,294,967,295 going to 0; other edges
 abbrev pub edges : List Case
 edges =
-    within "DestinationID rises as a side begins" box [] (scan (StartScan 0 1 1 0)) (0 ∷ 0 ∷ 1 ∷ 0 ∷ 0 ∷ 0 ∷ 0 ∷ 0 ∷ 0 ∷ [])
-    ∷ within "DestinationID stays where none begins" box [] (scan (StartScan 0 0 1 0)) (0 ∷ 0 ∷ 0 ∷ 0 ∷ 0 ∷ 0 ∷ 0 ∷ 0 ∷ 0 ∷ [])
-    ∷ within "DestinationID 4,294,967,295 goes to 0" lastDestination [] (scan (StartScan 0 1 1 0)) (0 ∷ 0 ∷ 0 ∷ 0 ∷ 0 ∷ 0 ∷ 0 ∷ 0 ∷ 0 ∷ [])
+    within "DestinationID rises as a side begins" box [] (scan (StartScan 0 1 1 0)) (inside 0 0 1 None None 0 0 0 0)
+    ∷ within "DestinationID stays where none begins" box [] (scan (StartScan 0 0 1 0)) (inside 0 0 0 None None 0 0 0 0)
+    ∷ within "DestinationID 4,294,967,295 goes to 0" lastDestination [] (scan (StartScan 0 1 1 0)) (inside 0 0 0 None None 0 0 0 0)
     ∷ case "−1 on the glass is stored as 1" box [] (scan (StartScan 0 endless 1 0)) (line 0 Scanning Unloaded 1 1 1 (60 ∷ []))
     ∷ case "in Erred 299 quiet seconds hold the job" (erredFor 298) [] (report Tick) (line 0 Erred Stuck 1 1 1 [])
     ∷ case "in Erred the 300th ends it" (erredFor 299) [] (report Tick) (line 0 Idle Stuck 0 1 0 [])
-    ∷ within "a job that ends by time: Timeout, a Busy feeder too" box (filling ++ ticks 9) (report Tick) (0 ∷ 0 ∷ 1 ∷ 2 ∷ 2 ∷ 1 ∷ 0 ∷ 0 ∷ 0 ∷ [])
+    ∷ within "a job that ends by time: Timeout, a Busy feeder too" box (filling ++ ticks 9) (report Tick) (inside 0 0 1 Timeout Timeout 1 0 0 0)
     ∷ case "and the feeder Erred" box (filling ++ ticks 9) (report Tick) (line 0 Idle Stuck 0 1 0 [])
-    ∷ within "Start: FailureCode none" box (jamming ++ report (Path 0) ∷ []) (scan (Start 1 0 0)) (0 ∷ 0 ∷ 1 ∷ 0 ∷ 1 ∷ 1 ∷ 0 ∷ 0 ∷ 0 ∷ [])
+    ∷ within "Start: FailureCode none" box (jamming ++ report (Path 0) ∷ []) (scan (Start 1 0 0)) (inside 0 0 1 None Jammed 1 0 0 0)
     ∷ ringed "bytes go in behind the stored ones, round the ring's end" box (filling ++ fetch ∷ []) (report (Bytes (68 ∷ 69 ∷ []))) (69 ∷ 66 ∷ 67 ∷ 68 ∷ [])
     ∷ case "oldest byte out first" box (filling ++ scan (Fetch name1 2 reply) ∷ report (Bytes (68 ∷ 69 ∷ [])) ∷ []) fetch
     (line 0 Scanning Busy 1 1 1 (3 ∷ 0 ∷ 67 ∷ 68 ∷ 69 ∷ []))
     ∷ replied "head A5 5A 06 k, the bytes, later bytes stay" box filling (scan (Fetch name1 2 (1 ∷ 2 ∷ 3 ∷ 4 ∷ 5 ∷ 6 ∷ 7 ∷ 8 ∷ [])))
-    (165 ∷ 90 ∷ 6 ∷ 2 ∷ 65 ∷ 66 ∷ 7 ∷ 8 ∷ [])
+    (0xA5 ∷ 0x5A ∷ 0x06 ∷ 2 ∷ 65 ∷ 66 ∷ 7 ∷ 8 ∷ [])
     ∷ replied "a refused fetch writes nothing" box [] (scan (Fetch name1 2 (1 ∷ 2 ∷ 3 ∷ 4 ∷ 5 ∷ []))) (1 ∷ 2 ∷ 3 ∷ 4 ∷ 5 ∷ [])
     ∷ case "k by the reply's length" box filling (scan (Fetch name1 8 (0 ∷ 0 ∷ 0 ∷ 0 ∷ 0 ∷ []))) (line 0 Scanning Busy 1 1 1 (1 ∷ 0 ∷ 65 ∷ []))
     ∷ case "last, then the drain step" box (filling ++ report SideEnded ∷ []) fetch (line 0 Pending Unloaded 1 2 0 (3 ∷ 1 ∷ 65 ∷ 66 ∷ 67 ∷ []))
@@ -206,25 +210,25 @@ edges =
     ∷ case "GetSideInformation" box jamming (scan GetSideInformation) (line 0 Erred Stuck 1 1 1 (1 ∷ 1 ∷ 0 ∷ []))
     ∷ case "feeder GetState" box jamming (feeder GetFeederState) (line 0 Erred Stuck 1 1 1 (3 ∷ 1 ∷ 1 ∷ []))
     ∷ case "GetFeederMode" box [] (feeder GetFeederMode) (line 0 Idle Unloaded 0 1 0 (0 ∷ []))
-    ∷ within "Eject 0 keeps MorePages" box (report (Tray 1) ∷ []) (feeder (Eject 0 0)) (0 ∷ 0 ∷ 0 ∷ 0 ∷ 0 ∷ 1 ∷ 0 ∷ 0 ∷ 0 ∷ [])
-    ∷ within "Eject 2 is Eject 1" box (report (Tray 1) ∷ []) (feeder (Eject 0 2)) (0 ∷ 0 ∷ 0 ∷ 0 ∷ 0 ∷ 0 ∷ 0 ∷ 0 ∷ 0 ∷ [])
-    ∷ within "Reset, path 0: none" box (report (Path 1) ∷ report (Path 0) ∷ []) (feeder (Reset 0)) (0 ∷ 0 ∷ 0 ∷ 0 ∷ 0 ∷ 0 ∷ 0 ∷ 0 ∷ 0 ∷ [])
+    ∷ within "Eject 0 keeps MorePages" box (report (Tray 1) ∷ []) (feeder (Eject 0 0)) (inside 0 0 0 None None 1 0 0 0)
+    ∷ within "Eject 2 is Eject 1" box (report (Tray 1) ∷ []) (feeder (Eject 0 2)) (inside 0 0 0 None None 0 0 0 0)
+    ∷ within "Reset, path 0: none" box (report (Path 1) ∷ report (Path 0) ∷ []) (feeder (Reset 0)) (inside 0 0 0 None None 0 0 0 0)
     ∷ []
 
 -- ---- where a builder slips
 abbrev pub slips : List Case
 slips =
-    within "Stop does not set quiet to 0, it asks" box (feedingOf 1 ++ ticks 3) (scan (Stop 1)) (3 ∷ 1 ∷ 1 ∷ 0 ∷ 0 ∷ 1 ∷ 0 ∷ 0 ∷ 0 ∷ [])
-    ∷ within "Load does not set quiet to 0" box (report (Tray 1) ∷ holding ++ ticks 3) (feeder (Load 1)) (3 ∷ 0 ∷ 0 ∷ 0 ∷ 0 ∷ 1 ∷ 0 ∷ 0 ∷ 0 ∷ [])
-    ∷ within "an empty fetch does not set quiet to 0" box (holding ++ ticks 3) fetch (3 ∷ 0 ∷ 0 ∷ 0 ∷ 0 ∷ 0 ∷ 0 ∷ 0 ∷ 0 ∷ [])
-    ∷ within "empty Bytes do not set quiet to 0" box (glass ++ ticks 3) (report (Bytes [])) (3 ∷ 0 ∷ 1 ∷ 0 ∷ 0 ∷ 0 ∷ 0 ∷ 0 ∷ 0 ∷ [])
-    ∷ within "another job's Stop does not set quiet to 0" box (glass ++ ticks 3) (scan (Stop 2)) (3 ∷ 0 ∷ 1 ∷ 0 ∷ 0 ∷ 0 ∷ 0 ∷ 0 ∷ 0 ∷ [])
+    within "Stop does not set quiet to 0, it asks" box (feedingOf 1 ++ ticks 3) (scan (Stop 1)) (inside 3 1 1 None None 1 0 0 0)
+    ∷ within "Load does not set quiet to 0" box (report (Tray 1) ∷ holding ++ ticks 3) (feeder (Load 1)) (inside 3 0 0 None None 1 0 0 0)
+    ∷ within "an empty fetch does not set quiet to 0" box (holding ++ ticks 3) fetch (inside 3 0 0 None None 0 0 0 0)
+    ∷ within "empty Bytes do not set quiet to 0" box (glass ++ ticks 3) (report (Bytes [])) (inside 3 0 1 None None 0 0 0 0)
+    ∷ within "another job's Stop does not set quiet to 0" box (glass ++ ticks 3) (scan (Stop 2)) (inside 3 0 1 None None 0 0 0 0)
     ∷ case "Load's 713 is a move of the feeder" box (report (Tray 1) ∷ feeder (Load 0) ∷ report (Tray 0) ∷ feeder (Load 0) ∷ []) (scan (StartScan 1 1 1 0))
     (line 713 Idle Unloaded 0 1 0 [])
     ∷ case "StartScan's 713 is none" box (feeder (Load 0) ∷ []) (scan (StartScan 1 1 1 0)) (line 713 Idle Unloaded 0 1 0 [])
     ∷ case "SideCount −1 stays −1" box (feedingOf endless) (report SideEnded) (line 0 Scanning Busy 1 2 endless [])
-    ∷ within "no ring bytes after Abort" box filling (scan (Abort 1)) (0 ∷ 0 ∷ 1 ∷ 0 ∷ 0 ∷ 1 ∷ 0 ∷ 0 ∷ 0 ∷ [])
-    ∷ within "no ring bytes, no stop after a jam" box (filling ++ scan (Stop 1) ∷ []) (report (Path 1)) (0 ∷ 0 ∷ 1 ∷ 1 ∷ 1 ∷ 1 ∷ 1 ∷ 0 ∷ 0 ∷ [])
+    ∷ within "no ring bytes after Abort" box filling (scan (Abort 1)) (inside 0 0 1 None None 1 0 0 0)
+    ∷ within "no ring bytes, no stop after a jam" box (filling ++ scan (Stop 1) ∷ []) (report (Path 1)) (inside 0 0 1 Jammed Jammed 1 1 0 0)
     ∷ case "a Busy feeder is free at end of job" box filling (scan (Abort 1)) (line 0 Idle Unloaded 0 1 0 [])
     ∷ []
 
@@ -260,6 +264,7 @@ refusing =
     ∷ case "Eject 501" box (feedingOf 1) (feeder (Eject 1 0)) (line 501 Scanning Busy 1 1 1 [])
     ∷ case "Eject 711" box (report (Path 1) ∷ []) (feeder (Eject 0 0)) (line 711 Idle Stuck 0 1 0 [])
     ∷ case "Reset 712" box [] (feeder (Reset 1)) (line 712 Idle Unloaded 0 1 0 [])
+    ∷ case "712 comes before 501" box (feedingOf 1) (feeder (Reset 2)) (line 712 Scanning Busy 1 1 1 [])
     ∷ case "Reset 501" box (feedingOf 1) (feeder (Reset 1)) (line 501 Scanning Busy 1 1 1 [])
     ∷ case "SetFeederMode 601" box [] (feeder (SetFeederMode 1 1)) (line 601 Idle Unloaded 0 1 0 [])
     ∷ case "SetFeederMode 712" box (feedingOf 1) (feeder (SetFeederMode 2 0)) (line 712 Scanning Busy 1 1 1 [])
@@ -309,14 +314,14 @@ readings =
     ∷ within "the drain step's 711 leaves the ring's start" box
     (report (Tray 1) ∷ scan (StartScan 1 2 1 0) ∷ report (Bytes (1 ∷ 2 ∷ [])) ∷ report SideEnded ∷ report (Path 1) ∷ [])
     (scan (Fetch name1 8 reply))
-    (0 ∷ 0 ∷ 1 ∷ 1 ∷ 1 ∷ 1 ∷ 1 ∷ 2 ∷ 0 ∷ [])
+    (inside 0 0 1 Jammed Jammed 1 1 2 0)
     ∷ case "and is not the fetch's own number" box
     (report (Tray 1) ∷ scan (StartScan 1 2 1 0) ∷ report (Bytes (1 ∷ 2 ∷ [])) ∷ report SideEnded ∷ report (Path 1) ∷ [])
     (scan (Fetch name1 8 reply))
     (line 0 Erred Stuck 1 2 1 (2 ∷ 1 ∷ 1 ∷ 2 ∷ []))
     ∷ case "nor is its 713: Pending, SideCount kept" box (feedingOf 2 ++ report (Tray 0) ∷ []) (report SideEnded) (line 0 Pending Unloaded 1 2 1 [])
     ∷ case "or 0 where it was −1" box (feedingOf endless ++ report (Tray 0) ∷ []) (report SideEnded) (line 0 Pending Unloaded 1 2 0 [])
-    ∷ within "Path 1 makes a feeder in Timeout Jammed" box (feedingOf 1 ++ ticks 10) (report (Path 1)) (0 ∷ 0 ∷ 1 ∷ 2 ∷ 1 ∷ 1 ∷ 1 ∷ 0 ∷ 0 ∷ [])
+    ∷ within "Path 1 makes a feeder in Timeout Jammed" box (feedingOf 1 ++ ticks 10) (report (Path 1)) (inside 0 0 1 Timeout Jammed 1 1 0 0)
     ∷ case "Path 1 on the glass leaves the scan" box glass (report (Path 1)) (line 0 Scanning Stuck 1 1 1 [])
     ∷ case "SetFeederMode on an Erred feeder is 501" box (report (Path 1) ∷ []) (feeder (SetFeederMode 0 0)) (line 501 Idle Stuck 0 1 0 [])
     ∷ []

@@ -23,8 +23,8 @@ abbrev pub scanOf : State → Scan
 scanOf s = s .box .scanner .state
 
 -- 0 is acceptance
-abbrev pub taken : Outcome → Bool
-taken o = eqb (o .number) 0
+abbrev pub wasAccepted : Outcome → Bool
+wasAccepted o = eqb (o .number) 0
 
 -- k of a fetch, and its bytes
 abbrev pub countIn : Values → ℕ
@@ -63,8 +63,8 @@ timeIn (stored k) = none
 
 -- ---- signs of life: accepted StartScan or Start; a fetch with k of 1 or more
 abbrev pub scanSign : ScanCall → Outcome → Bool
-scanSign (StartScan from c append asked) o = taken o
-scanSign (Start j from c) o = taken o
+scanSign (StartScan from c append asked) o = wasAccepted o
+scanSign (Start j from c) o = wasAccepted o
 scanSign (Stop j) o = false
 scanSign (Abort j) o = false
 scanSign (GetDestination j) o = false
@@ -74,8 +74,8 @@ scanSign GetSideInformation o = false
 
 -- accepted Bytes of 1 or more; accepted Side ended; a Path report that turns Scanning into Erred
 abbrev pub reportSign : Report → Scan → Outcome → Bool
-reportSign (Bytes bs) before o = taken o && leb 1 (length bs)
-reportSign SideEnded before o = taken o
+reportSign (Bytes bs) before o = wasAccepted o && leb 1 (length bs)
+reportSign SideEnded before o = wasAccepted o
 reportSign (Tray v) before o = false
 reportSign (Path v) before o = scanning before && erred (scanOf (o .state))
 reportSign Tick before o = false
@@ -114,9 +114,9 @@ abbrev pub orElse : Option ℕ → ℕ → ℕ
 orElse none g = g
 orElse (some t) g = t
 
-abbrev pub granted : List Event → ℕ
-granted [] = usualTime
-granted (e ∷ es) = orElse (timeIn (e .outcome .values)) (granted es)
+abbrev pub timeAnswered : List Event → ℕ
+timeAnswered [] = usualTime
+timeAnswered (e ∷ es) = orElse (timeIn (e .outcome .values)) (timeAnswered es)
 
 -- ---- the job's ordinal: one more with each accepted StartScan; a number given again is a new job
 abbrev pub plusOne : Option ℕ → ℕ → ℕ
@@ -151,12 +151,12 @@ callBytes (feeder c) = []
 callBytes (report c) = reportBytes c
 
 abbrev pub brought : Call → Outcome → List ℕ
-brought c o = cond (taken o) (callBytes c) []
+brought c o = cond (wasAccepted o) (callBytes c) []
 
 -- all bytes ever accepted, oldest first
-abbrev pub accepted : List Event → List Tagged
-accepted [] = []
-accepted (e ∷ es) = accepted es ++ map (tag (ordinal (e ∷ es))) (brought (e .call) (e .outcome))
+abbrev pub bytesAccepted : List Event → List Tagged
+bytesAccepted [] = []
+bytesAccepted (e ∷ es) = bytesAccepted es ++ map (tag (ordinal (e ∷ es))) (brought (e .call) (e .outcome))
 
 -- those that wait: a fetch takes k from the front; the end of a job and a jam leave none
 abbrev pub wasted : Scan → Bool
@@ -173,8 +173,8 @@ pub record World : Type 0 where
   pub now : State
   pub past : List Event
 
-unfoldable pub next : World → Call → World
-next w c =
+unfoldable pub after : World → Call → World
+after w c =
     record {
       now = step (w .now) c .state;
       past = record { before = scanOf (w .now); call = c; outcome = step (w .now) c } ∷ w .past;
@@ -182,7 +182,7 @@ next w c =
 
 unfoldable pub live : World → List Call → World
 live w [] = w
-live w (c ∷ cs) = live (next w c) cs
+live w (c ∷ cs) = live (after w c) cs
 
 abbrev pub born : List ℕ → World
 born ring = record { now = start ring; past = [] }
@@ -196,8 +196,8 @@ told [] os = os
 told (e ∷ es) os = told es (e .outcome ∷ os)
 
 -- the second at which the job held ends: its granted time (300 in a fault)
-abbrev pub due : World → ℕ
-due w = limit (scanOf (w .now)) (granted (w .past))
+abbrev pub dueSecond : World → ℕ
+dueSecond w = limit (scanOf (w .now)) (timeAnswered (w .past))
 
 -- the bytes that a fetch with this outcome yields, each with the job that it was accepted for
 abbrev pub got : World → Outcome → List Tagged
