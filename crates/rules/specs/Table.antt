@@ -278,31 +278,32 @@ refusing =
     ∷ case "Path 601" box [] (report (Path 2)) (line 601 Idle Unloaded 0 1 0 [])
     ∷ []
 
--- 604 for every call
+-- 604 for every call, before its own numbers, and all as it was
+abbrev pub unsoundly : String → Call → Case
+unsoundly says c = case says unsound [] c (line 604 Idle Unloaded 0 1 0 [])
+
 abbrev pub every604 : List Case
 every604 =
-    map
-    (λ (c : Call). case "604" unsound [] c (line 604 Idle Unloaded 0 1 0 []))
-    (scan (StartScan 3 0 1 0)
-    ∷ scan (Start 0 0 0)
-    ∷ scan (Stop 0)
-    ∷ scan (Abort 0)
-    ∷ scan (GetDestination 0)
-    ∷ fetch
-    ∷ scan GetState
-    ∷ scan GetSideInformation
-    ∷ feeder (Load 0)
-    ∷ feeder (Eject 0 3)
-    ∷ feeder (Reset 0)
-    ∷ feeder (SetFeederMode 0 1)
-    ∷ feeder GetFeederState
-    ∷ feeder GetFeederMode
-    ∷ report (Bytes [])
-    ∷ report SideEnded
-    ∷ report (Tray 2)
-    ∷ report (Path 2)
-    ∷ report Tick
-    ∷ [])
+    unsoundly "StartScan 604" (scan (StartScan 3 0 1 0))
+    ∷ unsoundly "Start 604" (scan (Start 0 0 0))
+    ∷ unsoundly "Stop 604" (scan (Stop 0))
+    ∷ unsoundly "Abort 604" (scan (Abort 0))
+    ∷ unsoundly "GetDestination 604" (scan (GetDestination 0))
+    ∷ unsoundly "Fetch 604" fetch
+    ∷ unsoundly "GetState 604" (scan GetState)
+    ∷ unsoundly "GetSideInformation 604" (scan GetSideInformation)
+    ∷ unsoundly "Load 604" (feeder (Load 0))
+    ∷ unsoundly "Eject 604" (feeder (Eject 0 3))
+    ∷ unsoundly "Reset 604" (feeder (Reset 0))
+    ∷ unsoundly "SetFeederMode 604" (feeder (SetFeederMode 0 1))
+    ∷ unsoundly "feeder GetState 604" (feeder GetFeederState)
+    ∷ unsoundly "GetFeederMode 604" (feeder GetFeederMode)
+    ∷ unsoundly "Bytes 604" (report (Bytes []))
+    ∷ unsoundly "Side ended 604" (report SideEnded)
+    ∷ unsoundly "Tray 604" (report (Tray 2))
+    ∷ unsoundly "Path 604" (report (Path 2))
+    ∷ unsoundly "Tick 604" (report Tick)
+    ∷ []
 
 -- ---- readings that docs/DECISIONS.md keeps
 abbrev pub readings : List Case

@@ -27,27 +27,22 @@ abbrev pub wasAccepted : Outcome → Bool
 wasAccepted o = eqb (o .number) 0
 
 -- k of a fetch, and its bytes
+abbrev pub pictureIn : Values → ℕ × List ℕ
+pictureIn nothing = (0, [])
+pictureIn (time t) = (0, [])
+pictureIn (destination n i) = (0, [])
+pictureIn (picture k l bs) = (k, bs)
+pictureIn (state s f) = (0, [])
+pictureIn (sides n c l) = (0, [])
+pictureIn (feeding f t x) = (0, [])
+pictureIn (mode m) = (0, [])
+pictureIn (stored k) = (0, [])
+
 abbrev pub countIn : Values → ℕ
-countIn nothing = 0
-countIn (time t) = 0
-countIn (destination n i) = 0
-countIn (picture k l bs) = k
-countIn (state s f) = 0
-countIn (sides n c l) = 0
-countIn (feeding f t x) = 0
-countIn (mode m) = 0
-countIn (stored k) = 0
+countIn v = pictureIn v .0
 
 abbrev pub bytesIn : Values → List ℕ
-bytesIn nothing = []
-bytesIn (time t) = []
-bytesIn (destination n i) = []
-bytesIn (picture k l bs) = bs
-bytesIn (state s f) = []
-bytesIn (sides n c l) = []
-bytesIn (feeding f t x) = []
-bytesIn (mode m) = []
-bytesIn (stored k) = []
+bytesIn v = pictureIn v .1
 
 -- the granted time that an accepted StartScan answers
 abbrev pub timeIn : Values → Option ℕ
