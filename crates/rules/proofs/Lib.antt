@@ -1,3 +1,4 @@
+pub mod Agrees
 pub mod Choice
 pub mod Sound
 pub mod Cases

@@ -1,10 +1,9 @@
 -- What the rules promise, each theorem with its whole statement. The words are those of specs/Promises.antt.
 use Prim.Native.Nat.{ℕ, _-_, _≤_, _<_}
-use Prim.Native.String.{String}
 use mathlib.Core.Path.{_≡_, refl, sym, _∙_, ap, ap₂}
 use mathlib.Core.Logic.{_↔_, _≢_}
 use mathlib.Core.Bool.{Bool, true, false, _||_, cond, or-true, true≢false}
-use mathlib.Core.List.{List, [], _∷_, _++_}
+use mathlib.Core.List.{List, [], _∷_}
 use mathlib.Core.Option.{some}
 use lib.Dec.{eqb, leb, ltb}
 use lib.IntN.{pos, negsuc}
@@ -19,7 +18,8 @@ use Rattle.rules.specs.Calls.{Tick, Call, report, n604, named, State, Ou
 use Rattle.rules.specs.Machine.{lines, step, Ran, run, start}
 use Rattle.rules.specs.Watch.{ordinal, wasAccepted, sign, scanOf, Tagged, World, after, live, born, lived, told, got}
 use Rattle.rules.specs.Promises.{below, bears, All, Ringed, First, OneOf, Refusal, Sides, runBy, OnTime, Fate, Silent, NotPutOff, Yields, Ended}
-use Rattle.rules.specs.Table.{Case, failing, table, starred-hold, edges-hold, slips-hold, refusing-hold, every604-hold, readings-hold}
+use Rattle.rules.specs.Table.{failing, table}
+use Rattle.rules.proofs.Agrees as agrees
 use Rattle.rules.proofs.Choice.{choice}
 use Rattle.rules.proofs.Sound.{to-sound, from-sound}
 use Rattle.rules.proofs.Answers as answers
@@ -160,18 +160,8 @@ settled-list box right (c ∷ cs) s =
     (ap (λ (o : Outcome). runBy box (o .state) cs) (right s c) ∙ settled-list box right cs (step s c .state))
 
 -- ---- 9. The paper's cases, as one table
-push : (t : Bool) (x : String) (a b : List String) → cond t (a ++ b) (x ∷ a ++ b) ≡ cond t a (x ∷ a) ++ b
-push true x a b = refl
-push false x a b = refl
-
-failing-append : (a b : List Case) → failing (a ++ b) ≡ failing a ++ failing b
-unfolding failing
-failing-append [] b = refl
-failing-append (c ∷ a) b =
-    ap (λ (l : List String). cond (c .right) l (c .says ∷ l)) (failing-append a b) ∙ push (c .right) (c .says) (failing a) (failing b)
-
 pub table-holds : failing table ≡ []
-table-holds = simp (failing-append, starred-hold, edges-hold, slips-hold, refusing-hold, every604-hold, readings-hold)
+table-holds = agrees.table-holds
 
 -- ---- 0 is never given
 pub never-zero : (r : Record) → nextJob r ≢ 0
