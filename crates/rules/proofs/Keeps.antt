@@ -5,23 +5,23 @@ use mathlib.Core.Logic.{_≢_}
 use mathlib.Core.Bool.{Bool, true, false, not, _&&_, _||_, cond, true≢false, false≢true}
 use lib.Dec.{eqb, leb, ltb}
 use native.Mathlib.Omega.{arith}
-use borrow.Author.Tests.{ltb-true, ltb-false, leb-true, leb-false, eqb-true, eqb-false, le-leb}
+use borrow.Author.Tests.{ltb-false, leb-true, leb-false, eqb-true, eqb-false, le-leb}
 use Rattle.rules.specs.declared.Scan.{Scan}
 use Rattle.rules.specs.declared.Feed.{Feed}
 use Rattle.rules.specs.declared.Failure.{Failure}
 use Rattle.rules.specs.declared.Granted.{Granted}
 use Rattle.rules.specs.declared.Feeder.{Feeder}
 use Rattle.rules.specs.declared.Record.{Record}
-use Rattle.rules.specs.Record.{greatest, endless, leastTime, mostTime, lastSide, mostSides, idle, pending, scanning, finishing, erred, busy, stuck, on}
-use Rattle.rules.specs.Record.{granting, limit, counted}
-use Rattle.rules.specs.Ring.{wrap}
-use Rattle.rules.specs.Feeder.{fails, taken, freed, late, jammed}
+use Rattle.rules.specs.Record.{greatest, mostRing, faultTime, endless, leastTime, mostTime, lastSide, mostSides, idle, pending, scanning, finishing}
+use Rattle.rules.specs.Record.{erred, busy, stuck, on, granting, limit, counted}
+use Rattle.rules.specs.Feeder.{stands, fails, taken, freed, late, jammed}
 use Rattle.rules.specs.Moves.{device, caught, withFeeder, quietAt, stopAt, jamStops, begun, released, ended, timedOut, settled, nextJob, given, readied}
 use Rattle.rules.specs.Moves.{started, stopped, numbered, drained, moved, last, fetched, filled, fallen, finished, sideEnded, feeds, due, ticked}
 use Rattle.rules.specs.Machine.{listed}
 use Rattle.rules.proofs.Choice.{choice, implied, vacuous, tollens, and-l, and-not}
 use Rattle.rules.proofs.Sound.{RingFit, FeederFit, Common, Held, Holding, Source, Glass, Resting, Reading, PhaseAt, Phase, Sound}
 use Rattle.rules.proofs.Cases.{started-cases, stopped-cases, drained-cases, fetched-cases, sideEnded-cases, ticked-cases}
+use Rattle.rules.proofs.RingLaws.{wrap-lt}
 
 -- ---- the facts of the state at hand
 abbrev Reads : Record → Type 0
@@ -42,7 +42,7 @@ resting Scan.Idle r e p = absurd (false≢true e)
 resting Scan.Pending r e p = (r .job .granted .seconds, p)
 resting Scan.Scanning r e p = absurd (false≢true e)
 resting Scan.Finishing r e p = absurd (false≢true e)
-resting Scan.Erred r e p = (300, p)
+resting Scan.Erred r e p = (faultTime, p)
 
 requiet : {h l g q lim : ℕ} (q′ lim′ : ℕ) → q′ < lim′ → Held h l g q lim → Held h l g q′ lim′
 requiet q′ lim′ e p = record { some = p .some; latest = p .latest; low = p .low; high = p .high; quiet = e }
@@ -72,14 +72,18 @@ erred-fit why f h = record { tray = h .tray; path = h .path; jam = implied (on (
 freed-fit : (f : Feeder) → FeederFit f → FeederFit (freed f)
 freed-fit f h = choice FeederFit (busy (f .state)) (λ b. refit Feed.Unloaded (f .failure) f (free-path f (busy-fit (f .state) b) h) h) (λ _. h)
 
+-- where a Busy feeder becomes another, none is Busy afterwards
+not-busy : (f g : Feeder) → busy (g .state) ≡ false → busy (cond (busy (f .state)) g f .state) ≡ false
+not-busy f g e = choice (λ (x : Feeder). busy (x .state) ≡ false) (busy (f .state)) (λ _. e) (λ b. b)
+
 freed-free : (f : Feeder) → busy (freed f .state) ≡ false
-freed-free f = choice (λ (y : Feeder). busy (y .state) ≡ false) (busy (f .state)) (λ _. refl) (λ e. e)
+freed-free f = not-busy f (stands Feed.Unloaded f) refl
 
 late-fit : (f : Feeder) → FeederFit f → FeederFit (late f)
 late-fit f h = choice FeederFit (busy (f .state)) (λ _. erred-fit Failure.Timeout f h) (λ _. h)
 
 late-free : (f : Feeder) → busy (late f .state) ≡ false
-late-free f = choice (λ (y : Feeder). busy (y .state) ≡ false) (busy (f .state)) (λ _. refl) (λ e. e)
+late-free f = not-busy f (fails Feed.Erred Failure.Timeout f) refl
 
 pub jammed-fit : (f : Feeder) → FeederFit f → FeederFit (jammed f)
 jammed-fit f h = record { tray = h .tray; path = omega arith; jam = refl }
@@ -96,7 +100,7 @@ refeed r n f e i h =
     }
 
 -- ---- end of job
-emptied-fit : (n : ℕ) → 1 ≤ n → n ≤ 65536 → RingFit (record { start = 0; stored = 0 }) n
+emptied-fit : (n : ℕ) → 1 ≤ n → n ≤ mostRing → RingFit (record { start = 0; stored = 0 }) n
 emptied-fit n l m = record { least = l; most = m; start = l; stored = omega arith }
 
 released-sound : (why : Failure) (f : Feeder) (r : Record) (n : ℕ) → busy (f .state) ≡ false → FeederFit f → Common r n → Sound (released why f r) n
@@ -206,7 +210,7 @@ drained-sound r n h =
     (λ s _. record { common = g; phase = record { held = h .held; stop = s; empty = h .empty; free = h .free } })
     (λ s _ _. record {
       common = g;
-      phase = record { held = requiet _ 300 (omega (arith, h .quiet)) (h .held); stop = s; empty = h .empty; free = h .free };
+      phase = record { held = requiet _ faultTime (omega (arith, h .quiet)) (h .held); stop = s; empty = h .empty; free = h .free };
     })
     (λ s _ _ _. record {
       common =
@@ -222,9 +226,6 @@ drained-sound r n h =
     (λ s c j _. begun-sound (numbered r) n g (h .held) j (begins-more (on (r .settings .feeder)) _ (r .side .count) (h .glass) (eqb-false _ _ c)))
 
 -- ---- Fetch and Bytes
-wrap-in : (n s k : ℕ) → s < n → k ≤ n → wrap n (s + k) < n
-wrap-in n s k h e = choice (λ (x : ℕ). x < n) (ltb (s + k) n) (λ t. ltb-true (s + k) n t) (λ t. omega (arith, ltb-false (s + k) n t))
-
 moved-common : (k : ℕ) (r : Record) (n : ℕ) → k ≤ r .ring .stored → Common r n → Common (moved k n r) n
 unfolding moved
 moved-common k r n e g =
@@ -233,7 +234,7 @@ moved-common k r n e g =
           record {
             least = g .ring .least;
             most = g .ring .most;
-            start = wrap-in n (r .ring .start) k (g .ring .start) (omega (arith, g .ring .stored));
+            start = wrap-lt n (r .ring .start) k (g .ring .start) (omega (arith, g .ring .stored));
             stored = omega (arith, g .ring .stored);
           };
       side = g .side;
@@ -355,7 +356,7 @@ free-unless Scan.Finishing r e p = p .free
 free-unless Scan.Erred r e p = p .free
 
 jam-held : (s : Scan) (r : Record) → (scanning s && on (r .settings .feeder)) ≡ true → Phase s r
-    → Held (r .job .held) (r .job .last) (r .job .granted .seconds) 0 300
+    → Held (r .job .held) (r .job .last) (r .job .granted .seconds) 0 faultTime
 jam-held s r e p = requiet _ _ (omega arith) (reading s r (and-l _ _ e) p .held)
 
 pub caught-sound : (r : Record) (n : ℕ) → feeds r ≡ true → Sound r n → Sound (caught r) n

@@ -15,9 +15,9 @@ use Rattle.rules.specs.declared.Record.{Record}
 use Rattle.rules.specs.Record.{greatest, negatives, endless, mostSides, signed, counted, idle, sound}
 use Rattle.rules.specs.Moves.{nextJob}
 use Rattle.rules.specs.Calls.{Tick, Call, report, n604, named, State, Outcome}
-use Rattle.rules.specs.Machine.{lines, step, Ran, run, start}
+use Rattle.rules.specs.Machine.{runBy, lines, step, Ran, run, start}
 use Rattle.rules.specs.Watch.{ordinal, wasAccepted, sign, scanOf, Tagged, World, after, live, born, lived, told, got}
-use Rattle.rules.specs.Promises.{below, bears, All, Ringed, First, OneOf, Refusal, Sides, runBy, OnTime, Fate, Silent, NotPutOff, Yields, Ended}
+use Rattle.rules.specs.Promises.{below, bears, All, Ringed, First, OneOf, Refusal, Sides, OnTime, Fate, Silent, NotPutOff, Yields, Ended}
 use Rattle.rules.specs.Table.{failing, table}
 use Rattle.rules.proofs.Agrees as agrees
 use Rattle.rules.proofs.Choice.{choice}
@@ -65,7 +65,7 @@ fresh-good ring l =
     }
 
 run-good : (cs : List Call) (s : State) → Good s → Good (run s cs .end)
-unfolding run
+unfolding runBy
 run-good [] s h = h
 run-good (c ∷ cs) s h = run-good cs (step s c .state) (deeds.step-sound s c h)
 
@@ -75,7 +75,7 @@ run-sound ring l cs = from-sound _ _ (run-good cs (start ring) (fresh-good ring 
 
 -- from a fresh box, over any list of calls, 604 never occurs
 outcomes-604 : (cs : List Call) (s : State) → Good s → All (λ (o : Outcome). o .number ≢ 604) (run s cs .outcomes)
-unfolding run
+unfolding runBy
 outcomes-604 [] s h = tt
 outcomes-604 (c ∷ cs) s h = (answers.not-604 s c h, outcomes-604 cs (step s c .state) (deeds.step-sound s c h))
 
@@ -84,7 +84,7 @@ never-604 ring l cs = outcomes-604 cs (start ring) (fresh-good ring l)
 
 -- ---- the watcher watches the machine of demand 2
 live-run : (cs : List Call) (w : World) → live w cs .now ≡ run (w .now) cs .end
-unfolding live after run
+unfolding live after runBy
 live-run [] w = refl
 live-run (c ∷ cs) w = live-run cs (after w c)
 
@@ -92,7 +92,7 @@ pub lived-run : (ring : List ℕ) (cs : List Call) → lived ring cs .now ≡ ru
 lived-run ring cs = live-run cs (born ring)
 
 live-told : (cs : List Call) (w : World) → told (live w cs .past) [] ≡ told (w .past) (run (w .now) cs .outcomes)
-unfolding live after run
+unfolding live after runBy
 live-told [] w = refl
 live-told (c ∷ cs) w = live-told cs (after w c)
 
@@ -153,7 +153,7 @@ settled p q = p ∙ sym q
 -- so over lists: a box that is right at every call gives, over any list, what the rules give
 pub settled-list : (box : State → Call → Outcome) → ((s : State) (c : Call) → box s c ≡ step s c) → (cs : List Call) (s : State)
     → runBy box s cs ≡ run s cs
-unfolding runBy run
+unfolding runBy
 settled-list box right [] s = refl
 settled-list box right (c ∷ cs) s =
     ap₂ (λ (o : Outcome) (rest : Ran). record { outcomes = o ∷ rest .outcomes; end = rest .end }) (right s c)

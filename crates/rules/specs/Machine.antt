@@ -164,11 +164,16 @@ pub record Ran : Type 0 where
   pub outcomes : List Outcome
   pub end : State
 
-unfoldable pub run : State → List Call → Ran
-run s [] = record { outcomes = []; end = s }
-run s (c ∷ cs) =
-    let rest = run (step s c .state) cs in
-    record { outcomes = step s c ∷ rest .outcomes; end = rest .end }
+-- whatever box answers them
+unfoldable pub runBy : (State → Call → Outcome) → State → List Call → Ran
+runBy box s [] = record { outcomes = []; end = s }
+runBy box s (c ∷ cs) =
+    let rest = runBy box (box s c .state) cs in
+    record { outcomes = box s c ∷ rest .outcomes; end = rest .end }
+
+-- and what the rules give
+abbrev pub run : State → List Call → Ran
+run s cs = runBy step s cs
 
 -- a fresh box with a lent ring
 abbrev pub start : List ℕ → State

@@ -16,7 +16,7 @@ use Rattle.rules.specs.Moves.{withFeeder}
 use Rattle.rules.specs.Calls.{StartScan, Start, Stop, Abort, GetDestination, Fetch, GetState, GetSideInformation, Eject, Reset, SetFeederMode}
 use Rattle.rules.specs.Calls.{GetFeederState, GetFeederMode, rowOf, Load, SideEnded, Tick, Call, scan, feeder, report, Reason, numberOf, State, nothing}
 use Rattle.rules.specs.Calls.{picture, Outcome, lent, Line, refuse, leaving, to}
-use Rattle.rules.specs.Machine.{Ran, step}
+use Rattle.rules.specs.Machine.{step}
 use Rattle.rules.specs.Watch.{scanOf, bytesIn, countIn, sign, ticks, seconds, ordinal, Tagged, byteOf, bytesAccepted, World, after, dueSecond, got}
 
 -- every member of a list has a property
@@ -64,13 +64,6 @@ pub record Refusal (s : State) (c : Call) (o : Outcome) : Type 0 where
 abbrev pub Sides : ℤ → Type 0
 Sides (pos n) = n ≤ mostSides
 Sides (negsuc n) = n ≡ 0
-
--- ---- demand 2: any box, and what it makes of a list of calls
-unfoldable pub runBy : (State → Call → Outcome) → State → List Call → Ran
-runBy box s [] = record { outcomes = []; end = s }
-runBy box s (c ∷ cs) =
-    let rest = runBy box (box s c .state) cs in
-    record { outcomes = box s c ∷ rest .outcomes; end = rest .end }
 
 -- ---- demand 3
 -- the next Tick ends the job held, with FailureCode Timeout, exactly when the seconds then reach the limit; else it stays

@@ -18,8 +18,8 @@ use Rattle.rules.specs.Moves.{finished, sideEnded, pathed, ticked}
 use Rattle.rules.specs.Calls.{StartScan, Start, Stop, Abort, GetDestination, Fetch, GetState, GetSideInformation, Load, Eject, Reset, SetFeederMode}
 use Rattle.rules.specs.Calls.{GetFeederState, GetFeederMode, Bytes, SideEnded, Tray, Path, Tick, Call, scan, feeder, report, State, Values, nothing}
 use Rattle.rules.specs.Calls.{time, destination, picture, state, sides, feeding, mode, stored, Outcome, answer}
-use Rattle.rules.specs.Machine.{same, scanRefusals, feederRefusals, reportRefusals, refusals, scanEffect, feederEffect, reportEffect, effect, step, run}
-use Rattle.rules.specs.Machine.{start}
+use Rattle.rules.specs.Machine.{runBy, same, scanRefusals, feederRefusals, reportRefusals, refusals, scanEffect, feederEffect, reportEffect, effect}
+use Rattle.rules.specs.Machine.{step, run, start}
 
 -- ---- a case: what it says, and whether the definitions agree
 pub record Case : Type 0 where
@@ -32,7 +32,7 @@ failing (c ∷ cs) = cond (c .right) (failing cs) (c .says ∷ failing cs)
 
 -- the outcome of a call after others
 unfoldable pub final : State → List Call → Call → Outcome
-unfolding run step answer scanRefusals feederRefusals reportRefusals refusals scanEffect feederEffect reportEffect effect sound begun
+unfolding runBy step answer scanRefusals feederRefusals reportRefusals refusals scanEffect feederEffect reportEffect effect sound begun
     released given readied started stopped name drained moved fetched filled finished sideEnded pathed ticked
 final s cs c = step (run s cs .end) c
 
