@@ -20,7 +20,7 @@ use Rattle.rules.specs.Calls.{n604, n601, n712, n404, n501, n711, n713, 
 use Rattle.rules.specs.Machine.{start, notHeld, notOurs, scanRefusals, feederRefusals, reportRefusals, refusals, scanEffect, feederEffect, reportEffect}
 use Rattle.rules.specs.Machine.{effect, lines, step}
 use Rattle.rules.specs.Watch.{scanOf, wasAccepted, sign}
-use Rattle.rules.specs.Promises.{below, bears, First, noLine, refuses, passes, leaves, goes, OneOf, zero, here, there, asItWas, byLoad, Refusal}
+use Rattle.rules.specs.Promises.{below, bears, First, noLine, refuses, passes, leaves, goes, OneOf, zero, here, there, reasons, leftBy, Refusal}
 use Rattle.rules.proofs.Choice.{or-r, and-l, and-r}
 use Rattle.rules.proofs.Sound.{Sound, from-sound}
 
@@ -55,11 +55,6 @@ answers (leaving n true r ∷ ls) s c o e = leaves refl
 answers (leaving n false r ∷ ls) s c o e = goes refl (answers ls s c o e)
 
 -- ---- what the calls' lists and effects have in common, call by call
-abbrev reasons : List Line → List Reason
-reasons [] = []
-reasons (refuse n t ∷ ls) = n ∷ reasons ls
-reasons (leaving n t r ∷ ls) = n ∷ reasons ls
-
 -- no line leaves anything but all as it was
 abbrev keeping : List Line → Bool
 keeping [] = true
@@ -123,6 +118,10 @@ first-named (passes e p) = there (first-named p)
 first-named (leaves e) = here
 first-named (goes e p) = there (first-named p)
 
+-- each list has the reasons named for its call
+pub as-named : (s : State) (c : Call) → reasons (refusals c s) ≡ named c
+as-named s c = formed c s .names
+
 pub only-named : (s : State) (c : Call) → OneOf (step s c .number) (n604 ∷ named c)
 only-named s c = subst (λ (rs : List Reason). OneOf (step s c .number) (n604 ∷ rs)) (formed c s .names) (first-named (first-of s c))
 
@@ -133,20 +132,20 @@ Clear [] = Unit {0}
 Clear (refuse n t ∷ ls) = (t ≡ false) × Clear ls
 Clear (leaving n t r ∷ ls) = (t ≡ false) × Clear ls
 
--- P of what each `leaving` line leaves, the lines before it being clear
+-- P of each line's refusal, the lines before it being clear
 abbrev pub Leaves : (Outcome → Type 0) → List Line → State → Call → Type 0
 Leaves P [] s c = Unit {0}
-Leaves P (refuse n t ∷ ls) s c = t ≡ false → Leaves P ls s c
+Leaves P (refuse n t ∷ ls) s c = P (refused n (s .box) s c) × (t ≡ false → Leaves P ls s c)
 Leaves P (leaving n t r ∷ ls) s c = P (refused n r s c) × (t ≡ false → Leaves P ls s c)
 
-pub by-tests : (P : Outcome → Type 0) (ls : List Line) (s : State) (c : Call) (o : Outcome)
-    → ((n : Reason) → P (refused n (s .box) s c)) → Leaves P ls s c → (Clear ls → P o) → P (answer ls s c o)
+pub by-tests : (P : Outcome → Type 0) (ls : List Line) (s : State) (c : Call) (o : Outcome) → Leaves P ls s c → (Clear ls → P o)
+    → P (answer ls s c o)
 unfolding answer
-by-tests P [] s c o kept l ok = ok tt
-by-tests P (refuse n true ∷ ls) s c o kept l ok = kept n
-by-tests P (refuse n false ∷ ls) s c o kept l ok = by-tests P ls s c o kept (l refl) (λ k. ok (refl, k))
-by-tests P (leaving n true r ∷ ls) s c o kept l ok = l .0
-by-tests P (leaving n false r ∷ ls) s c o kept l ok = by-tests P ls s c o kept (l .1 refl) (λ k. ok (refl, k))
+by-tests P [] s c o l ok = ok tt
+by-tests P (refuse n true ∷ ls) s c o l ok = l .0
+by-tests P (refuse n false ∷ ls) s c o l ok = by-tests P ls s c o (l .1 refl) (λ k. ok (refl, k))
+by-tests P (leaving n true r ∷ ls) s c o l ok = l .0
+by-tests P (leaving n false r ∷ ls) s c o l ok = by-tests P ls s c o (l .1 refl) (λ k. ok (refl, k))
 
 -- Load alone has a `leaving` line
 abbrev pub Unloading : (Outcome → Type 0) → State → Call → Type 0
@@ -154,36 +153,62 @@ Unloading P s c =
     (j : ℕ) → c ≡ feeder (Load j) → busy (s .box .feeder .state) ≡ false → stuck (s .box .feeder .state) ≡ false
     → P (refused n713 (withFeeder (unloads (s .box .feeder)) (s .box)) s c)
 
-keeping-leaves : (P : Outcome → Type 0) (ls : List Line) (s : State) (c : Call) → keeping ls ≡ true → Leaves P ls s c
-keeping-leaves P [] s c e = tt
-keeping-leaves P (refuse n t ∷ ls) s c e = λ _. keeping-leaves P ls s c e
-keeping-leaves P (leaving n t r ∷ ls) s c e = absurd (false≢true e)
+-- a list that keeps all as it was
+keeping-leaves : (P : Outcome → Type 0) (ls : List Line) (s : State) (c : Call) → ((n : Reason) → P (refused n (s .box) s c))
+    → keeping ls ≡ true → Leaves P ls s c
+keeping-leaves P [] s c kept e = tt
+keeping-leaves P (refuse n t ∷ ls) s c kept e = (kept n, λ _. keeping-leaves P ls s c kept e)
+keeping-leaves P (leaving n t r ∷ ls) s c kept e = absurd (false≢true e)
 
-leaves-of : (P : Outcome → Type 0) (s : State) (c : Call) → Unloading P s c → (isLoad c || keeping (refusals c s)) ≡ true
-    → Leaves P (refusals c s) s c
+leaves-of : (P : Outcome → Type 0) (s : State) (c : Call) → ((n : Reason) → P (refused n (s .box) s c)) → Unloading P s c
+    → (isLoad c || keeping (refusals c s)) ≡ true → Leaves P (refusals c s) s c
 unfolding refusals feederRefusals
-leaves-of P s (scan c) u e = keeping-leaves P (refusals (scan c) s) s (scan c) e
-leaves-of P s (feeder (Load j)) u e = λ _ b x. (u j refl b x, λ _. tt)
-leaves-of P s (feeder (Eject j v)) u e = λ _ _ _ _. tt
-leaves-of P s (feeder (Reset j)) u e = λ _ _. tt
-leaves-of P s (feeder (SetFeederMode j m)) u e = λ _ _ _. tt
-leaves-of P s (feeder GetFeederState) u e = tt
-leaves-of P s (feeder GetFeederMode) u e = tt
-leaves-of P s (report c) u e = keeping-leaves P (refusals (report c) s) s (report c) e
+leaves-of P s (scan c) kept u e = keeping-leaves P (refusals (scan c) s) s (scan c) kept e
+leaves-of P s (feeder (Load j)) kept u e = (kept n712, λ _. (kept n501, λ b. (kept n711, λ x. (u j refl b x, λ _. tt))))
+leaves-of P s (feeder (Eject j v)) kept u e = keeping-leaves P (refusals (feeder (Eject j v)) s) s (feeder (Eject j v)) kept e
+leaves-of P s (feeder (Reset j)) kept u e = keeping-leaves P (refusals (feeder (Reset j)) s) s (feeder (Reset j)) kept e
+leaves-of P s (feeder (SetFeederMode j m)) kept u e = keeping-leaves P (refusals (feeder (SetFeederMode j m)) s) s (feeder (SetFeederMode j m)) kept e
+leaves-of P s (feeder GetFeederState) kept u e = tt
+leaves-of P s (feeder GetFeederMode) kept u e = tt
+leaves-of P s (report c) kept u e = keeping-leaves P (refusals (report c) s) s (report c) kept e
 
 -- a property of every refusal and of the effect is one of the step
 pub by-step : (P : Outcome → Type 0) (s : State) (c : Call) → ((n : Reason) → P (refused n (s .box) s c)) → Unloading P s c
     → (Clear (refusals c s) → P (effect c s)) → P (step s c)
 unfolding step
-by-step P s c kept u ok = by-tests P (lines c s) s c (effect c s) kept (λ _. leaves-of P s c u (formed c s .keeps)) (λ k. ok (k .1))
+by-step P s c kept u ok = by-tests P (lines c s) s c (effect c s) (kept n604, λ _. leaves-of P s c kept u (formed c s .keeps)) (λ k. ok (k .1))
 
--- a refused call leaves all as it was and reports nothing, or is Load's 713
-pub refused-keeps : (s : State) (c : Call) → eqb (step s c .number) 0 ≡ false → Refusal s c (step s c)
-refused-keeps s c =
-    by-step (λ (o : Outcome). eqb (o .number) 0 ≡ false → Refusal s c o) s c
-    (λ n _. record { values = refl; reply = refl; left = asItWas refl })
-    (λ j e _ _ _. record { values = refl; reply = refl; left = byLoad j e refl refl })
-    (λ _ e. absurd (true≢false (sym (ap (λ (n : ℕ). eqb n 0) (formed c s .accepts)) ∙ e)))
+-- ---- a refused call leaves all as it was and reports nothing, but for Load's 713
+accepted-not : (s : State) (c : Call) (o : Outcome) → o .number ≡ 0 → eqb (o .number) 0 ≡ false → Refusal s c o
+accepted-not s c o z e = absurd (true≢false (sym (ap (λ (n : ℕ). eqb n 0) z) ∙ e))
+
+abbrev pub Refusing : State → Call → Outcome → Type 0
+Refusing s c o = eqb (o .number) 0 ≡ false → Refusal s c o
+
+refusing : (s : State) (c : Call) → ((n : ℕ) → leftBy c n s ≡ s) → isLoad c ≡ false → Refusing s c (step s c)
+refusing s c e l =
+    by-step (Refusing s c) s c (λ n _. record { values = refl; reply = refl; left = sym (e (numberOf n)) })
+    (λ j q _ _. absurd (true≢false (sym (ap isLoad q) ∙ l))) (λ _. accepted-not s c (effect c s) (formed c s .accepts))
+
+load-refusing : (s : State) (j : ℕ) → Refusing s (feeder (Load j)) (step s (feeder (Load j)))
+unfolding step refusals feederRefusals
+load-refusing s j =
+    let c = feeder (Load j) in
+    let kept : (n : Reason) → eqb (numberOf n) 713 ≡ false → Refusing s c (refused n (s .box) s c) =
+    λ n e _. record { values = refl; reply = refl; left = rw e } in
+    by-tests (Refusing s c) (lines c s) s c (effect c s)
+    (kept n604 refl, λ _. (kept n712 refl, λ _. (kept n501 refl, λ _. (kept n711 refl, λ _. (λ _. record { values = refl; reply = refl; left = refl }, λ _. tt)))))
+    (λ _. accepted-not s c (effect c s) (formed c s .accepts))
+
+pub refused-keeps : (s : State) (c : Call) → Refusing s c (step s c)
+refused-keeps s (scan c) = refusing s (scan c) (λ _. refl) refl
+refused-keeps s (feeder (Load j)) = load-refusing s j
+refused-keeps s (feeder (Eject j v)) = refusing s (feeder (Eject j v)) (λ _. refl) refl
+refused-keeps s (feeder (Reset j)) = refusing s (feeder (Reset j)) (λ _. refl) refl
+refused-keeps s (feeder (SetFeederMode j m)) = refusing s (feeder (SetFeederMode j m)) (λ _. refl) refl
+refused-keeps s (feeder GetFeederState) = refusing s (feeder GetFeederState) (λ _. refl) refl
+refused-keeps s (feeder GetFeederMode) = refusing s (feeder GetFeederMode) (λ _. refl) refl
+refused-keeps s (report c) = refusing s (report c) (λ _. refl) refl
 
 -- a sound record is not refused by 604
 abbrev pub Good : State → Type 0

@@ -10,7 +10,7 @@ use native.Mathlib.Nat.{add-zero}
 use borrow.Author.Tests.{leb-true, leb-false, eqb-true}
 use Rattle.rules.specs.declared.Scan.{Scan}
 use Rattle.rules.specs.declared.Record.{Record}
-use Rattle.rules.specs.Record.{idle, scanning, on, limit}
+use Rattle.rules.specs.Record.{erred, faultTime, idle, scanning, on, limit}
 use Rattle.rules.specs.Ring.{queue}
 use Rattle.rules.specs.Moves as moves
 use Rattle.rules.specs.Moves.{settled, given, readied, begun, released, drained, least, moved, filled, finished}
@@ -43,9 +43,20 @@ too-soon a b c e = omega arith
 at-last : {l q s d : ℕ} → l ≤ q + 1 → q < l → d ≡ l → s ≡ q → suc s ≡ d
 at-last a b c e = omega arith
 
+-- the watcher's limit is the box's
+abbrev watched : Scan → ℕ → ℕ
+watched x g = cond (erred x) faultTime g
+
+limit-is : (x : Scan) (g : ℕ) → limit x g ≡ watched x g
+limit-is Scan.Idle g = refl
+limit-is Scan.Pending g = refl
+limit-is Scan.Scanning g = refl
+limit-is Scan.Finishing g = refl
+limit-is Scan.Erred g = refl
+
 module _ (w : World) (t : Timely w) (i : idle (scanOf (w .now)) ≡ false) where
   due-is : dueSecond w ≡ moves.due (w .now .box)
-  due-is = ap (limit (scanOf (w .now))) (t .grant)
+  due-is = ap (watched (scanOf (w .now))) (t .grant) ∙ sym (limit-is (scanOf (w .now)) (w .now .box .job .granted .seconds))
 
   in-time : w .now .box .job .quiet < moves.due (w .now .box)
   in-time = holding (scanOf (w .now)) (w .now .box) i (t .good .phase) .quiet
@@ -177,7 +188,7 @@ second-kept w c h g a = go (deed-counts h d .count a)
     go : Counted (w .now) c (step (w .now) c) → SecondKept w c
     go (alive s z) = clash s g
     go (silent s i q e) =
-        record { same = ap₂ limit e (ap (λ (x : Option ℕ). orElse x (timeAnswered (w .past))) (deed-untimed d i)); count = rw g }
+        record { same = ap₂ watched e (ap (λ (x : Option ℕ). orElse x (timeAnswered (w .past))) (deed-untimed d i)); count = rw g }
 
 -- nobody held, and no sign of life: nobody is held after it
 idle-on : (cs : List Call) (w : World) → Good (w .now) → idle (scanOf (w .now)) ≡ true → Silent w cs → idle (scanOf (live w cs .now)) ≡ true

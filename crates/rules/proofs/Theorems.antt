@@ -15,9 +15,9 @@ use Rattle.rules.specs.declared.Record.{Record}
 use Rattle.rules.specs.Record.{greatest, negatives, endless, mostSides, signed, counted, idle, sound}
 use Rattle.rules.specs.Moves.{nextJob}
 use Rattle.rules.specs.Calls.{Tick, Call, report, n604, named, State, Outcome}
-use Rattle.rules.specs.Machine.{runBy, lines, step, Ran, run, start}
+use Rattle.rules.specs.Machine.{runBy, lines, step, Ran, run, start, refusals}
 use Rattle.rules.specs.Watch.{ordinal, wasAccepted, sign, scanOf, Tagged, World, after, live, born, lived, told, got}
-use Rattle.rules.specs.Promises.{below, bears, All, Ringed, First, OneOf, Refusal, Sides, OnTime, Fate, Silent, NotPutOff, Yields, Ended}
+use Rattle.rules.specs.Promises.{reasons, below, bears, All, Ringed, First, OneOf, Refusal, Sides, OnTime, Fate, Silent, NotPutOff, Yields, Ended}
 use Rattle.rules.specs.Table.{failing, table}
 use Rattle.rules.proofs.Agrees as agrees
 use Rattle.rules.proofs.Choice.{choice}
@@ -37,11 +37,14 @@ in-order s c n = answers.in-order s c n
 pub only-named : (s : State) (c : Call) → OneOf (step s c .number) (n604 ∷ named c)
 only-named s c = answers.only-named s c
 
--- in the order of the table, 604 before them
+-- each call's list has the numbers named for it, and they stand in the order of the table, 604 before them
+pub as-named : (s : State) (c : Call) → reasons (refusals c s) ≡ named c
+as-named s c = answers.as-named s c
+
 pub table-order : (c : Call) → below 1 (named c) ≡ true
 table-order c = answers.table-order c
 
--- ---- 2. A refused call leaves the state and reports nothing, or it is Load's 713
+-- ---- 2. A refused call reports nothing and leaves all as it was, but for Load's 713, which leaves the feeder Unloaded and the rest
 pub refused-keeps : (s : State) (c : Call) → eqb (step s c .number) 0 ≡ false → Refusal s c (step s c)
 refused-keeps s c = answers.refused-keeps s c
 

@@ -4,7 +4,7 @@ use mathlib.Core.Path.{_≡_}
 use mathlib.Core.Bool.{Bool, true, false, _&&_, _||_, cond}
 use mathlib.Core.List.{List, [], _∷_, _++_, map}
 use mathlib.Core.Option.{Option, none, some}
-use lib.Dec.{ltb}
+use lib.Dec.{eqb, ltb}
 use lib.IntN.{ℤ, pos, negsuc}
 use lib.ListN.{length}
 use Rattle.rules.specs.declared.Scan.{Scan}
@@ -49,16 +49,27 @@ abbrev pub below : ℕ → List Reason → Bool
 below n [] = true
 below n (r ∷ rs) = ltb n (rowOf r) && below (rowOf r) rs
 
--- all as it was; or Load's 713, which leaves the feeder Unloaded and the rest
-pub data Left (s : State) (c : Call) (o : Outcome) : Type 0 where
-  asItWas : o .state ≡ s → Left s c o
-  byLoad : (j : ℕ) → c ≡ feeder (Load j) → o .number ≡ 713 → o .state ≡ to (withFeeder (unloads (s .box .feeder)) (s .box)) s
-      → Left s c o
+-- the reasons of a list of lines
+abbrev pub reasons : List Line → List Reason
+reasons [] = []
+reasons (refuse n t ∷ ls) = n ∷ reasons ls
+reasons (leaving n t r ∷ ls) = n ∷ reasons ls
+
+-- what a refusal by number n leaves: by Load's 713 the feeder Unloaded, rest kept; else all as it was
+abbrev pub leftBy : Call → ℕ → State → State
+leftBy (scan c) n s = s
+leftBy (feeder (Load j)) n s = cond (eqb n 713) (to (withFeeder (unloads (s .box .feeder)) (s .box)) s) s
+leftBy (feeder (Eject j v)) n s = s
+leftBy (feeder (Reset j)) n s = s
+leftBy (feeder (SetFeederMode j m)) n s = s
+leftBy (feeder GetFeederState) n s = s
+leftBy (feeder GetFeederMode) n s = s
+leftBy (report c) n s = s
 
 pub record Refusal (s : State) (c : Call) (o : Outcome) : Type 0 where
   pub values : o .values ≡ nothing
   pub reply : o .reply ≡ lent c
-  pub left : Left s c o
+  pub left : o .state ≡ leftBy c (o .number) s
 
 -- −1 to 999, as people read SideCount
 abbrev pub Sides : ℤ → Type 0

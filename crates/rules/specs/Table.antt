@@ -12,9 +12,9 @@ use Rattle.rules.specs.declared.Feed.the-variants.{Unloaded, Loaded, Bus
 use Rattle.rules.specs.declared.Failure.{Failure}
 use Rattle.rules.specs.declared.Failure.the-variants.{None, Jammed, Timeout}
 use Rattle.rules.specs.declared.Record.{Record}
-use Rattle.rules.specs.Record.{greatest, endless, fresh, sound}
-use Rattle.rules.specs.Moves.{withJob, withSide, quietAt, begun, released, given, readied, started, stopped, name, drained, moved, fetched, filled}
-use Rattle.rules.specs.Moves.{finished, sideEnded, pathed, ticked}
+use Rattle.rules.specs.Record.{exactly, greatest, endless, fresh, sound}
+use Rattle.rules.specs.Moves.{withSettings, withFeeder, withRing, stopAt, withJob, withSide, quietAt, begun, released, given, readied, started, stopped}
+use Rattle.rules.specs.Moves.{name, drained, moved, fetched, filled, finished, sideEnded, pathed, ticked}
 use Rattle.rules.specs.Calls.{StartScan, Start, Stop, Abort, GetDestination, Fetch, GetState, GetSideInformation, Load, Eject, Reset, SetFeederMode}
 use Rattle.rules.specs.Calls.{GetFeederState, GetFeederMode, Bytes, SideEnded, Tray, Path, Tick, Call, scan, feeder, report, State, Values, nothing}
 use Rattle.rules.specs.Calls.{time, destination, picture, state, sides, feeding, mode, stored, Outcome, answer}
@@ -305,6 +305,126 @@ every604 =
     ∷ unsoundly "Tick 604" (report Tick)
     ∷ []
 
+-- ---- sound: both sides of each test of the five points, with a ring of n bytes
+abbrev pub judged : String → ℕ → Record → Bool → Case
+judged says n r expected = record { says = says; right = exactly (sound r n) expected }
+
+-- a job Pending; Scanning on the glass; Scanning from the feeder; Finishing from the feeder and on the glass, bytes stored; Erred
+abbrev pub after : List Call → Record
+after cs = run box cs .end .box
+
+abbrev pub held : Record
+held = after holding
+
+abbrev pub onGlass : Record
+onGlass = after glass
+
+abbrev pub fed : Record
+fed = after filling
+
+abbrev pub draining : Record
+draining = after (filling ++ report SideEnded ∷ [])
+
+abbrev pub drainingGlass : Record
+drainingGlass = after (glass ++ report (Bytes (65 ∷ [])) ∷ report SideEnded ∷ [])
+
+abbrev pub erring : Record
+erring = after jamming
+
+-- one field of a part changed
+abbrev pub jobAt : ℕ → ℕ → ℕ → ℕ → Record → Record
+jobAt job given seconds quiet r =
+    withJob (record { held = job; last = given; granted = record { seconds = seconds }; quiet = quiet; stop = r .job .stop }) r
+
+abbrev pub sideAt : ℕ → ℕ → Record → Record
+sideAt number count r = withSide (record { number = number; count = count; destination = r .side .destination }) r
+
+abbrev pub settingsAt : ℕ → ℕ → Record → Record
+settingsAt from append r = withSettings (record { feeder = from; append = append }) r
+
+abbrev pub feederAt : Feed → ℕ → ℕ → Record → Record
+feederAt x tray path r = withFeeder (record { state = x; failure = None; tray = tray; path = path }) r
+
+abbrev pub ringAt : ℕ → ℕ → Record → Record
+ringAt from count r = withRing (record { start = from; stored = count }) r
+
+abbrev pub judgedJobs : List Case
+judgedJobs =
+    judged "fresh is sound" 4 fresh true
+    ∷ judged "Idle with a job is not" 4 (jobAt 1 1 60 0 fresh) false
+    ∷ judged "held with job 0 is not" 4 (jobAt 0 0 60 0 held) false
+    ∷ judged "Idle with SideNumber 0 is not" 4 (sideAt 0 0 fresh) false
+    ∷ judged "Idle with SideNumber 2 is not" 4 (sideAt 2 0 fresh) false
+    ∷ judged "Idle with SideCount 1 is not" 4 (sideAt 1 1 fresh) false
+    ∷ judged "Idle with quiet 1 is not" 4 (quietAt 1 fresh) false
+    ∷ judged "Idle with a stop asked is not" 4 (stopAt 1 fresh) false
+    ∷ judged "in Idle granted and the last number are free" 4 (jobAt 0 77 9999 0 fresh) true
+    ∷ judged "SideNumber 0 is sound" 4 (sideAt 0 0 held) true
+    ∷ judged "SideNumber 999 is sound" 4 (sideAt 999 0 held) true
+    ∷ judged "SideNumber 1000 is not" 4 (sideAt 1000 0 held) false
+    ∷ judged "SideCount 999 is sound" 4 (sideAt 1 999 held) true
+    ∷ judged "SideCount 1000 is not" 4 (sideAt 1 1000 held) false
+    ∷ judged "SideCount −1 is sound" 4 (sideAt 1 endless held) true
+    ∷ judged "SideCount −2 is not" 4 (sideAt 1 4294967294 held) false
+    ∷ judged "a job that is not the last number is not" 4 (jobAt 1 2 10 0 held) false
+    ∷ judged "granted 4 is not" 4 (jobAt 1 1 4 0 held) false
+    ∷ judged "granted 5 is sound" 4 (jobAt 1 1 5 0 held) true
+    ∷ judged "granted 600 is sound" 4 (jobAt 1 1 600 0 held) true
+    ∷ judged "granted 601 is not" 4 (jobAt 1 1 601 0 held) false
+    ∷ judged "quiet 9 of 10 is sound" 4 (jobAt 1 1 10 9 held) true
+    ∷ judged "quiet 10 of 10 is not" 4 (jobAt 1 1 10 10 held) false
+    ∷ judged "in Erred quiet 299 of 10 is sound" 4 (jobAt 1 1 10 299 erring) true
+    ∷ judged "in Erred quiet 300 of 600 is not" 4 (jobAt 1 1 600 300 erring) false
+    ∷ []
+
+abbrev pub judgedRings : List Case
+judgedRings =
+    judged "a ring of 0 bytes is not" 0 fresh false
+    ∷ judged "a ring of 1 byte is sound" 1 fresh true
+    ∷ judged "a ring of 65,536 bytes is sound" 65536 fresh true
+    ∷ judged "a ring of 65,537 bytes is not" 65537 fresh false
+    ∷ judged "start at the last place is sound" 4 (ringAt 3 0 held) true
+    ∷ judged "start past it is not" 4 (ringAt 4 0 held) false
+    ∷ judged "stored the whole ring is sound" 4 (ringAt 0 4 fed) true
+    ∷ judged "stored one more is not" 4 (ringAt 0 5 fed) false
+    ∷ judged "stored in Idle is not" 4 (ringAt 0 1 fresh) false
+    ∷ judged "stored in Pending is not" 4 (ringAt 0 1 held) false
+    ∷ judged "stored in Erred is not" 4 (ringAt 0 1 erring) false
+    ∷ judged "none stored in Scanning is sound" 4 (ringAt 0 0 fed) true
+    ∷ judged "one stored in Finishing is sound" 4 (ringAt 0 1 draining) true
+    ∷ judged "none stored in Finishing is not" 4 (ringAt 0 0 draining) false
+    ∷ []
+
+abbrev pub judgedFeeders : List Case
+judgedFeeders =
+    judged "Scanning from the feeder, not Busy, is not" 4 (feederAt Loaded 1 0 fed) false
+    ∷ judged "Busy in Idle is not" 4 (feederAt Busy 1 0 fresh) false
+    ∷ judged "Busy in Pending is not" 4 (feederAt Busy 1 0 held) false
+    ∷ judged "Busy in Finishing is not" 4 (feederAt Busy 1 0 draining) false
+    ∷ judged "Busy in Scanning on the glass is not" 4 (feederAt Busy 1 0 onGlass) false
+    ∷ judged "Busy with SideCount 0 is not" 4 (sideAt 1 0 fed) false
+    ∷ judged "Busy with SideCount −1 is sound" 4 (sideAt 1 endless fed) true
+    ∷ judged "Scanning on the glass with SideCount 1 is sound" 4 onGlass true
+    ∷ judged "Scanning on the glass with SideCount 0 is not" 4 (sideAt 1 0 onGlass) false
+    ∷ judged "Scanning on the glass with SideCount 2 is not" 4 (sideAt 1 2 onGlass) false
+    ∷ judged "Finishing on the glass with SideCount 0 is sound" 4 drainingGlass true
+    ∷ judged "Finishing on the glass with SideCount 1 is not" 4 (sideAt 1 1 drainingGlass) false
+    ∷ judged "Finishing from the feeder with SideCount 1 is sound" 4 (sideAt 1 1 draining) true
+    ∷ judged "UseFeeder 2 is not" 4 (settingsAt 2 1 fresh) false
+    ∷ judged "Append 2 is not" 4 (settingsAt 1 2 fresh) false
+    ∷ judged "settings 0 are sound" 4 (settingsAt 0 0 fresh) true
+    ∷ judged "a stop mark of 2 is not" 4 (stopAt 2 fed) false
+    ∷ judged "a tray sensor of 2 is not" 4 (feederAt Unloaded 2 0 fresh) false
+    ∷ judged "a path sensor of 2 is not" 4 (feederAt Stuck 0 2 fresh) false
+    ∷ judged "path 1 with the feeder Unloaded is not" 4 (feederAt Unloaded 0 1 fresh) false
+    ∷ judged "path 1 with the feeder Erred is sound" 4 (feederAt Stuck 0 1 fresh) true
+    ∷ judged "path 0 with the feeder Erred is sound" 4 (feederAt Stuck 0 0 fresh) true
+    ∷ judged "a stop asked in Scanning is sound" 4 (stopAt 1 fed) true
+    ∷ judged "a stop asked in Finishing is sound" 4 (stopAt 1 draining) true
+    ∷ judged "a stop asked in Pending is not" 4 (stopAt 1 held) false
+    ∷ judged "a stop asked in Erred is not" 4 (stopAt 1 erring) false
+    ∷ []
+
 -- ---- readings that docs/DECISIONS.md keeps
 abbrev pub readings : List Case
 readings =
@@ -328,7 +448,7 @@ readings =
     ∷ []
 
 abbrev pub table : List Case
-table = starred ++ edges ++ slips ++ refusing ++ every604 ++ readings
+table = starred ++ edges ++ slips ++ refusing ++ every604 ++ judgedJobs ++ judgedRings ++ judgedFeeders ++ readings
 
 pub starred-hold : failing starred ≡ []
 unfolding failing final
@@ -349,6 +469,18 @@ refusing-hold = refl
 pub every604-hold : failing every604 ≡ []
 unfolding failing final
 every604-hold = refl
+
+pub judgedJobs-hold : failing judgedJobs ≡ []
+unfolding failing final
+judgedJobs-hold = refl
+
+pub judgedRings-hold : failing judgedRings ≡ []
+unfolding failing final
+judgedRings-hold = refl
+
+pub judgedFeeders-hold : failing judgedFeeders ≡ []
+unfolding failing final
+judgedFeeders-hold = refl
 
 pub readings-hold : failing readings ≡ []
 unfolding failing final

@@ -7,7 +7,7 @@ use mathlib.Core.Option.{Option, none, some}
 use lib.Dec.{eqb, leb}
 use lib.ListN.{length, take, drop}
 use Rattle.rules.specs.declared.Scan.{Scan}
-use Rattle.rules.specs.Record.{usualTime, idle, scanning, erred, limit}
+use Rattle.rules.specs.Record.{faultTime, usualTime, idle, scanning, erred}
 use Rattle.rules.specs.Calls.{ScanCall, StartScan, Start, Stop, Abort, GetDestination, Fetch, GetState, GetSideInformation, Report, Bytes, SideEnded}
 use Rattle.rules.specs.Calls.{Tray, Path, Tick, Call, scan, feeder, report, State, Values, nothing, time, destination, picture, state, sides, feeding}
 use Rattle.rules.specs.Calls.{mode, stored, Outcome}
@@ -192,7 +192,7 @@ told (e ∷ es) os = told es (e .outcome ∷ os)
 
 -- the second at which the job held ends: its granted time (300 in a fault)
 abbrev pub dueSecond : World → ℕ
-dueSecond w = limit (scanOf (w .now)) (timeAnswered (w .past))
+dueSecond w = cond (erred (scanOf (w .now))) faultTime (timeAnswered (w .past))
 
 -- the bytes that a fetch with this outcome yields, each with the job that it was accepted for
 abbrev pub got : World → Outcome → List Tagged
