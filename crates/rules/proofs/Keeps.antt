@@ -5,7 +5,7 @@ use mathlib.Core.Logic.{_≢_}
 use mathlib.Core.Bool.{Bool, true, false, not, _&&_, _||_, cond, true≢false, false≢true}
 use lib.Dec.{eqb, leb, ltb}
 use native.Mathlib.Omega.{arith}
-use borrow.Author.Tests.{ltb-false, leb-true, leb-false, eqb-true, eqb-false, le-leb}
+use borrow.Author.Tests.{ltb-true, ltb-false, leb-true, leb-false, eqb-true, eqb-false, le-leb}
 use Rattle.rules.specs.declared.Scan.{Scan}
 use Rattle.rules.specs.declared.Feed.{Feed}
 use Rattle.rules.specs.declared.Failure.{Failure}
@@ -186,8 +186,9 @@ numbered-common r n h =
       side =
           record {
             number =
-                choice (λ (x : ℕ). x ≤ lastSide) (eqb (r .side .number) lastSide) (λ _. omega arith)
-                (λ e. omega (arith, eqb-false (r .side .number) lastSide e, h .side .number));
+                choice (λ (x : ℕ). x ≤ lastSide) (ltb (r .side .number) lastSide)
+                (λ e. omega (arith, ltb-true (r .side .number) lastSide e))
+                (λ _. omega arith);
             count = h .side .count;
           };
       settings = h .settings;

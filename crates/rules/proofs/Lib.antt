@@ -1,5 +1,6 @@
 pub mod Agrees
 pub mod Choice
+pub mod Guards
 pub mod Sound
 pub mod Cases
 pub mod Keeps

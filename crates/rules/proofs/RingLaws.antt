@@ -17,17 +17,17 @@ use Rattle.rules.proofs.Choice.{choice}
 by-lt : (P : ℕ → Type 0) (a b : ℕ) {x y : ℕ} → (a < b → P x) → (b ≤ a → P y) → P (cond (ltb a b) x y)
 by-lt P a b f g = choice P (ltb a b) (λ e. f (ltb-true a b e)) (λ e. g (ltb-false a b e))
 
-next-lt : (n at : ℕ) → at < n → next n at < n
+pub next-lt : (n at : ℕ) → at < n → next n at < n
 next-lt n at h = by-lt (λ (k : ℕ). k < n) (at + 1) n (λ e. e) (λ e. omega arith)
 
 pub wrap-lt : (n at k : ℕ) → at < n → k ≤ n → wrap n (at + k) < n
 wrap-lt n at k h hk = by-lt (λ (j : ℕ). j < n) (at + k) n (λ e. e) (λ e. omega arith)
 
-wrap-zero : (n at : ℕ) → at < n → wrap n (at + 0) ≡ at
+pub wrap-zero : (n at : ℕ) → at < n → wrap n (at + 0) ≡ at
 wrap-zero n at h = by-lt (λ (j : ℕ). j ≡ at) (at + 0) n (λ e. omega arith) (λ e. omega arith)
 
 -- one on, then k; k, then one on: both are k + 1 on
-wrap-next : (n at k : ℕ) → at < n → k < n → wrap n (next n at + k) ≡ wrap n (at + suc k)
+pub wrap-next : (n at k : ℕ) → at < n → k < n → wrap n (next n at + k) ≡ wrap n (at + suc k)
 wrap-next n at k h hk =
     by-lt (λ (j : ℕ). wrap n (j + k) ≡ wrap n (at + suc k)) (at + 1) n (λ e. ap (λ (j : ℕ). wrap n j) (omega arith)) λ e.
     let low : 0 + k < n = omega arith in

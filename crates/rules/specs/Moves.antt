@@ -2,7 +2,7 @@
 use Prim.Native.Nat.{ℕ, zero, suc, _+_, _-_, _/_, _%_, _^_, min}
 use mathlib.Core.Bool.{Bool, _&&_, _||_, cond}
 use mathlib.Core.List.{List, [], _∷_, _++_}
-use lib.Dec.{eqb, leb}
+use lib.Dec.{eqb, leb, ltb}
 use Rattle.rules.specs.declared.Scan.{Scan}
 use Rattle.rules.specs.declared.Failure.{Failure}
 use Rattle.rules.specs.declared.Scanner.{Scanner}
@@ -152,7 +152,7 @@ abbrev pub numbered : Record → Record
 numbered r =
     withSide
     (record {
-      number = cond (eqb (r .side .number) lastSide) 0 (r .side .number + 1);
+      number = cond (ltb (r .side .number) lastSide) (r .side .number + 1) 0;
       count = r .side .count;
       destination = r .side .destination;
     })
