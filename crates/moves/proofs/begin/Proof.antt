@@ -1,0 +1,25 @@
+use borrow.Author.Needs.{needs}
+use Rattle.rules.specs.Moves.{begun}
+use Rattle.moves.proofs.begin.Statement.{statement}
+use Rattle.moves.proofs.begin.Tie as tie
+
+take-from-requires : tie.Need-take-from-requires
+take-from-requires c κs = search needs
+
+with-feeder-requires : tie.Need-with-feeder-requires
+with-feeder-requires c κs = search needs
+
+stand-requires : tie.Need-stand-requires
+stand-requires c κs = search needs
+
+announce-requires : tie.Need-announce-requires
+announce-requires c κs = search needs
+
+returns : tie.Need-returns
+unfolding begun
+returns c = rw (c .announce .ensures, c .before .stand .ensures, c .before .before .with-feeder .ensures, c .before .before .before .take-from .ensures)
+
+pub begin-spec : {M : Type 1} → statement M
+begin-spec =
+    tie.close
+    (tie.spec take-from-requires with-feeder-requires stand-requires announce-requires returns)

@@ -1,0 +1,12 @@
+use borrow.Author.Needs.{needs}
+use Rattle.moves.proofs.feeder.jam_stops.Statement.{statement}
+use Rattle.moves.proofs.feeder.jam_stops.Tie as tie
+
+is-erred-requires : tie.Need-is-erred-requires
+is-erred-requires c κs = search needs
+
+returns : tie.Need-returns
+returns c = rw (c .is-erred .ensures)
+
+pub jam-stops-spec : {M : Type 1} → statement M
+jam-stops-spec = tie.close (tie.spec is-erred-requires returns)

@@ -1,0 +1,17 @@
+use borrow.Author.Needs.{needs}
+use Rattle.rules.specs.Moves.{given}
+use Rattle.moves.proofs.job.give.Statement.{statement}
+use Rattle.moves.proofs.job.give.Tie as tie
+
+next-job-requires : tie.Need-next-job-requires
+next-job-requires c κs = search needs
+
+grant-requires : tie.Need-grant-requires
+grant-requires c κs = search needs
+
+returns : tie.Need-returns
+unfolding given
+returns c = cc
+
+pub give-spec : {M : Type 1} → statement M
+give-spec = tie.close (tie.spec next-job-requires grant-requires returns)

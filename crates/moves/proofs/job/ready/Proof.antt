@@ -1,0 +1,14 @@
+use borrow.Author.Needs.{needs}
+use Rattle.rules.specs.Moves.{readied}
+use Rattle.moves.proofs.job.ready.Statement.{statement}
+use Rattle.moves.proofs.job.ready.Tie as tie
+
+stored-sides-requires : tie.Need-stored-sides-requires
+stored-sides-requires c κs = search needs
+
+returns : tie.Need-returns
+unfolding readied
+returns c = cc
+
+pub ready-spec : {M : Type 1} → statement M
+ready-spec = tie.close (tie.spec stored-sides-requires returns)

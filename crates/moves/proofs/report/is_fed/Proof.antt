@@ -1,0 +1,12 @@
+use borrow.Author.Needs.{needs}
+use Rattle.moves.proofs.report.is_fed.Statement.{statement}
+use Rattle.moves.proofs.report.is_fed.Tie as tie
+
+is-scanning-requires : tie.Need-is-scanning-requires
+is-scanning-requires c κs = search needs
+
+returns : tie.Need-returns
+returns c = rw (c .is-scanning .ensures)
+
+pub is-fed-spec : {M : Type 1} → statement M
+is-fed-spec = tie.close (tie.spec is-scanning-requires returns)

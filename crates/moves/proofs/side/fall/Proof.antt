@@ -1,0 +1,19 @@
+use borrow.Author.Needs.{needs}
+use Rattle.rules.proofs.Guards.{guards, numbers}
+use Rattle.moves.proofs.side.fall.Statement.{statement}
+use Rattle.moves.proofs.side.fall.Tie as tie
+
+returns : tie.Need-returns
+returns c = search (needs, guards, numbers) depth 12
+
+returns-2 : tie.Need-returns-2
+returns-2 c = cc
+
+sub-result : tie.Need-sub-result
+sub-result c = search needs
+
+returns-3 : tie.Need-returns-3
+returns-3 c = search (needs, guards, numbers) depth 12
+
+pub fall-spec : {M : Type 1} → statement M
+fall-spec = tie.close (tie.spec returns returns-2 sub-result returns-3)

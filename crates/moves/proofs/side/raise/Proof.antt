@@ -1,0 +1,14 @@
+use mathlib.Core.Path.{_∙_}
+use borrow.Author.Needs.{needs}
+use Rattle.moves.proofs.Wrap.{wrap-risen}
+use Rattle.moves.proofs.side.raise.Statement.{statement}
+use Rattle.moves.proofs.side.raise.Tie as tie
+
+wrapping-add-u32-requires : tie.Need-wrapping-add-u32-requires
+wrapping-add-u32-requires c κs = search needs
+
+returns : tie.Need-returns
+returns c = c .wrapping-add-u32 .ensures ∙ wrap-risen _ (search needs)
+
+pub raise-spec : {M : Type 1} → statement M
+raise-spec = tie.close (tie.spec wrapping-add-u32-requires returns)

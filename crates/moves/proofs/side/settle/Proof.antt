@@ -1,0 +1,13 @@
+use borrow.Author.Needs.{needs}
+use Rattle.rules.proofs.Guards.{guards, numbers}
+use Rattle.moves.proofs.side.settle.Statement.{statement}
+use Rattle.moves.proofs.side.settle.Tie as tie
+
+returns : tie.Need-returns
+returns c = search (needs, guards, numbers) depth 12
+
+returns-2 : tie.Need-returns-2
+returns-2 c = search (needs, guards, numbers) depth 12
+
+pub settle-spec : {M : Type 1} → statement M
+settle-spec = tie.close (tie.spec returns returns-2)

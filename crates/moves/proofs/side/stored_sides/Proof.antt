@@ -1,0 +1,16 @@
+use borrow.Author.Needs.{needs}
+use Rattle.rules.proofs.Guards.{guards, numbers}
+use Rattle.moves.proofs.side.stored_sides.Statement.{statement}
+use Rattle.moves.proofs.side.stored_sides.Tie as tie
+
+returns : tie.Need-returns
+returns c = search (needs, guards, numbers) depth 12
+
+returns-2 : tie.Need-returns-2
+returns-2 c = search (needs, guards, numbers) depth 12
+
+returns-3 : tie.Need-returns-3
+returns-3 c = search (needs, guards, numbers) depth 12
+
+pub stored-sides-spec : {M : Type 1} → statement M
+stored-sides-spec = tie.close (tie.spec returns returns-2 returns-3)

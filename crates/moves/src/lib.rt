@@ -1,0 +1,203 @@
+// The moves of the record, each under the requirements' name. What they leave alone they keep.
+pub mod feeder;
+pub mod job;
+pub mod report;
+pub mod side;
+
+use rules::Failure;
+use rules::Feeder;
+use rules::Record;
+use rules::Ring;
+use rules::Scan;
+use rules::Scanner;
+ghost use mathlib.Core.Path.{_≡_};
+ghost use Rattle.rules.specs.Moves.{withFeeder, withRing, standing, quietAt, stopAt, emptied, heard, begun, announced, released, ended, timedOut, faulted};
+ghost use Rattle.rules.specs.Moves.{waited, numbered, drainedOn, drained};
+
+pub fn with_feeder(f: Feeder, r: Record) -> Record
+    ensures { λ n. ⌜ n ≡ withFeeder f r ⌝ }
+{
+    let mut n = r;
+    n.feeder = f;
+    n
+}
+
+pub fn set_quiet(quiet: u16, r: Record) -> Record
+    ensures { λ n. ⌜ n ≡ quietAt quiet r ⌝ }
+{
+    let mut n = r;
+    n.job.quiet = quiet;
+    n
+}
+
+pub fn set_stop(mark: u8, r: Record) -> Record
+    ensures { λ n. ⌜ n ≡ stopAt mark r ⌝ }
+{
+    let mut n = r;
+    n.job.stop = mark;
+    n
+}
+
+// The scanner stands so, its FailureCode kept.
+pub fn stand(state: Scan, r: Record) -> Record
+    ensures { λ n. ⌜ n ≡ standing state r ⌝ }
+{
+    let c = r.scanner;
+    let failure = c.failure;
+    let mut n = r;
+    let scanner = Scanner { state, failure };
+    n.scanner = scanner;
+    n
+}
+
+// The ring stands so after k bytes were moved: a sign of life where that is 1 or more.
+pub fn hear(k: usize, g: Ring, r: Record) -> Record
+    ensures { λ n. ⌜ n ≡ heard k (withRing g r) ⌝ }
+{
+    let mut n = r;
+    n.ring = g;
+    if 1 <= k {
+        n.job.quiet = 0;
+        return n;
+    }
+    n
+}
+
+// ---- a side begins
+fn announce(r: Record) -> Record
+    ensures { λ n. ⌜ n ≡ announced r ⌝ }
+{
+    let d = r.side;
+    let id = side::raise(d.destination);
+    let mut n = r;
+    n.side.destination = id;
+    n
+}
+
+// From the feeder it becomes Busy. Then Scanning, and DestinationID rises.
+pub fn begin(r: Record) -> Record
+    ensures { λ n. ⌜ n ≡ begun r ⌝ }
+{
+    let t = r.settings;
+    let from = t.feeder;
+    let was = r.feeder;
+    let f = feeder::take_from(from, was);
+    let fed = with_feeder(f, r);
+    let scanning = stand(Scan::Scanning, fed);
+    announce(scanning)
+}
+
+// ---- end of job
+fn release(why: Failure, f: Feeder, r: Record) -> Record
+    ensures { λ n. ⌜ n ≡ released why f r ⌝ }
+{
+    let mut n = r;
+    let scanner = Scanner {
+        state: Scan::Idle,
+        failure: why,
+    };
+    n.scanner = scanner;
+    n.job.held = 0;
+    n.job.quiet = 0;
+    n.job.stop = 0;
+    n.side.number = 1;
+    n.side.count = 0;
+    n.feeder = f;
+    let ring = Ring {
+        start: 0,
+        stored: 0,
+    };
+    n.ring = ring;
+    n
+}
+
+// FailureCode none; Busy becomes Unloaded.
+pub fn end(r: Record) -> Record
+    ensures { λ n. ⌜ n ≡ ended r ⌝ }
+{
+    let was = r.feeder;
+    let f = feeder::free(was);
+    release(Failure::None, f, r)
+}
+
+// FailureCode Timeout; a Busy feeder becomes Erred, Timeout.
+pub fn end_by_time(r: Record) -> Record
+    ensures { λ n. ⌜ n ≡ timedOut r ⌝ }
+{
+    let was = r.feeder;
+    let f = feeder::be_late(was);
+    release(Failure::Timeout, f, r)
+}
+
+// ---- the drain step
+pub fn fault(r: Record) -> Record
+    ensures { λ n. ⌜ n ≡ faulted r ⌝ }
+{
+    let mut n = r;
+    let scanner = Scanner {
+        state: Scan::Erred,
+        failure: Failure::Jammed,
+    };
+    n.scanner = scanner;
+    n
+}
+
+// Pending, with SideCount 0 if it was −1 and kept otherwise.
+fn wait(r: Record) -> Record
+    ensures { λ n. ⌜ n ≡ waited r ⌝ }
+{
+    let p = stand(Scan::Pending, r);
+    let d = r.side;
+    if d.count == 4294967295 {
+        let mut n = p;
+        n.side.count = 0;
+        return n;
+    }
+    p
+}
+
+// SideNumber plus 1, 999 going to 0.
+fn number(r: Record) -> Record
+    ensures { λ n. ⌜ n ≡ numbered r ⌝ }
+{
+    let d = r.side;
+    let mut n = r;
+    if d.number < 999 {
+        let next = d.number + 1;
+        n.side.number = next;
+        return n;
+    }
+    n.side.number = 0;
+    n
+}
+
+// What follows once the side has its next number.
+fn drain_on(r: Record) -> Record
+    ensures { λ n. ⌜ n ≡ drainedOn r ⌝ }
+{
+    let j = r.job;
+    let d = r.side;
+    let t = r.settings;
+    let from = t.feeder;
+    let f = r.feeder;
+    if j.stop == 1 {
+        return end(r);
+    }
+    if d.count == 0 {
+        return stand(Scan::Pending, r);
+    }
+    if feeder::jam_stops(from, f) {
+        return fault(r);
+    }
+    if feeder::sheet_stops(from, f) {
+        return wait(r);
+    }
+    begin(r)
+}
+
+pub fn drain(r: Record) -> Record
+    ensures { λ n. ⌜ n ≡ drained r ⌝ }
+{
+    let n = number(r);
+    drain_on(n)
+}
