@@ -1,10 +1,8 @@
 -- How a chain of tests in code meets `answer`: which lines were passed, and which one hit.
-use Prim.Native.Nat.{ℕ}
 use mathlib.Core.Path.{_≡_, refl, sym, ap, _∙_}
 use mathlib.Core.Bool.{Bool, true, false, not}
 use mathlib.Core.List.{List, [], _∷_}
-use borrow.Author.Tests.{not-true, not-false, eq-eqb, ne-eqb, lt-ltb, le-ltb, le-leb, lt-leb}
-use lib.Dec.{eqb}
+use borrow.Author.Tests.{lt-ltb, le-ltb}
 use Rattle.rules.specs.declared.Record.{Record}
 use Rattle.rules.specs.Calls.{Call, Reason, State, Outcome, Line, refuse, leaving, refused, answer}
 
@@ -24,24 +22,11 @@ leads (skip e l) = rw e (leads l)
 leads (hit-leaving e) = rw e
 leads (skip-leaving e l) = rw e (leads l)
 
--- ---- a test of the code, `t`, that a contract equates with the line's
-pub was : {b t : Bool} → t ≡ b → t ≡ true → b ≡ true
-was e h = sym e ∙ h
+-- ---- a test of the code, `t`, that a contract equates with the line's `b`, or with its opposite
+pub through : {b t x : Bool} → t ≡ b → t ≡ x → b ≡ x
+through e h = sym e ∙ h
 
-pub was-not : {b t : Bool} → t ≡ b → t ≡ false → b ≡ false
-was-not e h = sym e ∙ h
+pub through-not : {b t x : Bool} → t ≡ b → not t ≡ x → not b ≡ x
+through-not e h = ap not (sym e) ∙ h
 
--- the line's test is the opposite one
-pub against : {b t : Bool} → t ≡ b → t ≡ true → not b ≡ false
-against e h = ap not (sym e ∙ h)
-
-pub against-not : {b t : Bool} → t ≡ b → t ≡ false → not b ≡ true
-against-not e h = ap not (sym e ∙ h)
-
-pub same-number : {i j : ℕ} → i ≡ j → not (eqb i j) ≡ false
-same-number {i} {j} e = ap not (eq-eqb i j e)
-
-pub other-number : {i j : ℕ} → (i ≡ j → ⊥) → not (eqb i j) ≡ true
-other-number {i} {j} e = ap not (ne-eqb i j e)
-
-pub ruleset tests = (was, was-not, against, against-not, same-number, other-number, not-true, not-false, eq-eqb, ne-eqb, lt-ltb, le-ltb, le-leb, lt-leb)
+pub ruleset tests = (through, through-not, lt-ltb, le-ltb)

@@ -3,8 +3,8 @@ use Prim.Native.Nat.{ℕ, _-_}
 use mathlib.Core.List.{List, [], _++_}
 use lib.ListN.{length, take, drop, replicate}
 use Rattle.rules.specs.declared.Record.{Record}
-use Rattle.rules.specs.Calls.{Reason, n604, n601, n712, n404, n501, n711, n713, n603, numberOf, State, Values, nothing, time, destination, picture, state, sides}
-use Rattle.rules.specs.Calls.{feeding, mode, stored, Outcome}
+use Rattle.rules.specs.Calls.{Reason, n604, n601, n712, n404, n501, n711, n713, n603, numberOf, State, Values, nothing, time, destination, picture, state}
+use Rattle.rules.specs.Calls.{sides, feeding, mode, stored, Outcome}
 use Rattle.rules.specs.Moves.{headed}
 use Rattle.answers.specs.declared.Why.{Why}
 use Rattle.answers.specs.declared.Why.the-variants.{Unsound, Unlisted, OtherJob, OtherName, WrongState, FeederErred, NoSheet, NoRoom}

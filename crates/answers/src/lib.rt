@@ -48,6 +48,26 @@ pub struct AfterCall {
     pub answer: Done,
 }
 
+impl AfterCall {
+    pub fn refused(why: Why, next: Record) -> AfterCall
+        ensures { λ a. ⌜ a ≡ record { next = next; answer = Done.Refused why } ⌝ }
+    {
+        AfterCall {
+            next,
+            answer: Done::Refused(why),
+        }
+    }
+
+    pub fn accepted(next: Record) -> AfterCall
+        ensures { λ a. ⌜ a ≡ record { next = next; answer = Done.Accepted } ⌝ }
+    {
+        AfterCall {
+            next,
+            answer: Done::Accepted,
+        }
+    }
+}
+
 // StartScan: the granted time.
 pub enum Granting {
     For(u16),
@@ -57,6 +77,17 @@ pub enum Granting {
 pub struct AfterStartScan {
     pub next: Record,
     pub answer: Granting,
+}
+
+impl AfterStartScan {
+    pub fn refused(why: Why, next: Record) -> AfterStartScan
+        ensures { λ a. ⌜ a ≡ record { next = next; answer = Granting.Refused why } ⌝ }
+    {
+        AfterStartScan {
+            next,
+            answer: Granting::Refused(why),
+        }
+    }
 }
 
 // The bytes of a name and how many there are; unused bytes are 0.

@@ -1,4 +1,5 @@
 // When a record is sound with a lent ring: the requirements' five points, each over the parts it speaks of.
+pub mod asked;
 pub mod feed;
 pub mod scan;
 

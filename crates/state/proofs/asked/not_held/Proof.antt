@@ -1,0 +1,12 @@
+use borrow.Author.Needs.{needs}
+use Rattle.state.proofs.asked.not_held.Statement.{statement}
+use Rattle.state.proofs.asked.not_held.Tie as tie
+
+is-idle-requires : tie.Need-is-idle-requires
+is-idle-requires c κs = search needs
+
+returns : tie.Need-returns
+returns c = rw (c .before .is-idle .ensures)
+
+pub not-held-spec : {M : Type 1} → statement M
+not-held-spec = tie.close (tie.spec is-idle-requires returns)
