@@ -1,0 +1,15 @@
+use borrow.Author.Needs.{needs}
+use Rattle.scan.proofs.restarted.Statement.{statement}
+use Rattle.scan.proofs.restarted.Tie as tie
+
+settle-requires : tie.Need-settle-requires
+settle-requires c κs = search needs
+
+start-requires : tie.Need-start-requires
+start-requires c κs = search needs
+
+returns : tie.Need-returns
+returns c = rw (c .start .ensures, c .before .settle .ensures)
+
+pub restarted-spec : {M : Type 1} → statement M
+restarted-spec = tie.close (tie.spec settle-requires start-requires returns)

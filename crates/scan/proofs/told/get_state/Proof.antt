@@ -1,0 +1,19 @@
+use borrow.Author.Needs.{needs}
+use Rattle.rules.specs.Machine.{step, refusals, scanRefusals, effect, scanEffect}
+use Rattle.answers.proofs.Leads.{leads, accept, hit, skip, tests}
+use Rattle.scan.proofs.told.get_state.Statement.{statement}
+use Rattle.scan.proofs.told.get_state.Tie as tie
+
+sound-with-requires : tie.Need-sound-with-requires
+sound-with-requires c κs = search needs
+
+returns : tie.Need-returns
+unfolding step refusals scanRefusals effect scanEffect
+returns c = leads (hit (search tests))
+
+returns-2 : tie.Need-returns-2
+unfolding step refusals scanRefusals effect scanEffect
+returns-2 c = leads (skip (search tests) accept)
+
+pub get-state-spec : {M : Type 1} → statement M
+get-state-spec = tie.close (tie.spec sound-with-requires returns returns-2)
