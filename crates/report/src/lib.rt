@@ -1,0 +1,127 @@
+// The five sensor reports; a second is a Tick.
+use answers::AfterBytes;
+use answers::AfterCall;
+use answers::Done;
+use answers::Stored;
+use answers::Why;
+use rules::Record;
+use rules::Ring;
+ghost use mathlib.Core.Path.{_≡_};
+ghost use mathlib.Core.List.{[]};
+ghost use Prim.Native.Nat.{_+_, _≤_};
+ghost use Rattle.rules.specs.Feeder.{trayAt};
+ghost use Rattle.rules.specs.Moves.{withFeeder, filled};
+ghost use Rattle.rules.specs.Calls.{report, Bytes, SideEnded, Tray, Path, Tick};
+ghost use Rattle.rules.specs.Machine.{step};
+ghost use Rattle.answers.specs.Told.{stateOf, outcome, done, put};
+
+// k bytes more are stored; a sign of life where that is 1 or more.
+fn fuller(k: usize, r: Record) -> Record
+    requires { ⌜ r .ring .stored + k ≤ 65536 ⌝ }
+    ensures { λ n. ⌜ n ≡ filled k r ⌝ }
+{
+    let was = r.ring;
+    let g = Ring {
+        start: was.start,
+        stored: was.stored + k,
+    };
+    moves::hear(k, g, r)
+}
+
+// All into the ring or none.
+pub fn bytes(r: Record, ring: &mut [u8], given: &[u8]) -> AfterBytes
+    ensures { λ a. ⌜ outcome (put (a .answer)) (a .next) (now (ring .exit)) [] ≡ step (stateOf r (now (ring .entry))) (report (Bytes (now (given .entry)))) ⌝ }
+{
+    let c = r.scanner;
+    let s = c.state;
+    let g = r.ring;
+    if !state::is_sound(r, ring.len()) {
+        return AfterBytes {
+            next: r,
+            answer: Stored::Refused(Why::Unsound),
+        };
+    }
+    if !state::scan::is_scanning(s) {
+        return AfterBytes {
+            next: r,
+            answer: Stored::Refused(Why::WrongState),
+        };
+    }
+    if !ring::put_in(ring, g, given) {
+        return AfterBytes {
+            next: r,
+            answer: Stored::Refused(Why::NoRoom),
+        };
+    }
+    let k = given.len();
+    AfterBytes {
+        next: fuller(k, r),
+        answer: Stored::Bytes(k),
+    }
+}
+
+pub fn side_ended(r: Record, ring: &[u8]) -> AfterCall
+    ensures { λ a. ⌜ outcome (done (a .answer)) (a .next) (now (ring .entry)) [] ≡ step (stateOf r (now (ring .entry))) (report SideEnded) ⌝ }
+{
+    let c = r.scanner;
+    let s = c.state;
+    if !state::sound_with(r, ring) {
+        return AfterCall::refused(Why::Unsound, r);
+    }
+    if !state::scan::is_scanning(s) {
+        return AfterCall::refused(Why::WrongState, r);
+    }
+    AfterCall {
+        next: moves::report::end_side(r),
+        answer: Done::Accepted,
+    }
+}
+
+fn with_tray(value: u8, r: Record) -> Record
+    ensures { λ n. ⌜ n ≡ withFeeder (trayAt value (r .feeder)) r ⌝ }
+{
+    let f = r.feeder;
+    moves::with_feeder(moves::feeder::set_tray(value, f), r)
+}
+
+pub fn tray(r: Record, ring: &[u8], value: u8) -> AfterCall
+    ensures { λ a. ⌜ outcome (done (a .answer)) (a .next) (now (ring .entry)) [] ≡ step (stateOf r (now (ring .entry))) (report (Tray value)) ⌝ }
+{
+    if !state::sound_with(r, ring) {
+        return AfterCall::refused(Why::Unsound, r);
+    }
+    if !state::asked::is_marked(value) {
+        return AfterCall::refused(Why::Unlisted, r);
+    }
+    AfterCall {
+        next: with_tray(value, r),
+        answer: Done::Accepted,
+    }
+}
+
+pub fn path(r: Record, ring: &[u8], value: u8) -> AfterCall
+    ensures { λ a. ⌜ outcome (done (a .answer)) (a .next) (now (ring .entry)) [] ≡ step (stateOf r (now (ring .entry))) (report (Path value)) ⌝ }
+{
+    if !state::sound_with(r, ring) {
+        return AfterCall::refused(Why::Unsound, r);
+    }
+    if !state::asked::is_marked(value) {
+        return AfterCall::refused(Why::Unlisted, r);
+    }
+    AfterCall {
+        next: moves::report::set_path(value, r),
+        answer: Done::Accepted,
+    }
+}
+
+pub fn tick(r: Record, ring: &[u8]) -> AfterCall
+    ensures { λ a. ⌜ outcome (done (a .answer)) (a .next) (now (ring .entry)) [] ≡ step (stateOf r (now (ring .entry))) (report Tick) ⌝ }
+{
+    if !state::sound_with(r, ring) {
+        return AfterCall::refused(Why::Unsound, r);
+    }
+    AfterCall {
+        next: moves::report::tick(r),
+        answer: Done::Accepted,
+    }
+}
