@@ -1,0 +1,93 @@
+-- What a fetch hands over: how many bytes, the reply, and the record that is left.
+use Prim.Native.Nat.{ℕ, _+_, _-_, _<_, _≤_, min}
+use mathlib.Core.Path.{_≡_, sym, ap, _∙_}
+use mathlib.Core.Bool.{Bool, true, false, _&&_}
+use mathlib.Core.List.{List, [], _∷_, _++_, append-nil}
+use native.Mathlib.Omega.{arith}
+use borrow.Author.Tests.{lt-ltb, le-leb}
+use borrow.Rule.Slice.PartMut.{putMid}
+use lib.Dec.{eqb}
+use lib.ListN.{length, set, take, drop, length-set, length-drop}
+use lib.Seq.{take-all, drop-length, drop-drop, take-at}
+use Rattle.rules.specs.declared.Record.{Record}
+use Rattle.rules.specs.declared.Ring.{Ring}
+use Rattle.rules.specs.Record.{finishing}
+use Rattle.rules.specs.Ring.{wrap, queue}
+use Rattle.rules.specs.Moves.{withRing, heard, drained, headed, least, moved, last, fetched}
+use Rattle.rules.proofs.RingLaws.{length-queue}
+use Rattle.ring.specs.Lent.{has, left, goes, takeOut}
+use Rattle.answers.specs.declared.Fetched.{Fetched}
+use Rattle.answers.specs.declared.AfterFetch.{AfterFetch}
+use Rattle.fetch.specs.Reply.{replyWith, noted}
+
+-- ---- the reply
+-- with the first three bytes of the head, and the part behind the head that is lent
+abbrev pub marked : List ℕ → List ℕ
+marked l = set (set (set l 0 0xA5) 1 0x5A) 2 0x06
+
+abbrev pub behind : List ℕ → List ℕ
+behind l = take (length (marked l) - headed) (drop headed (marked l))
+
+pub marked-long : (l : List ℕ) → length (marked l) ≡ length l
+marked-long l = simp length-set
+
+behind-is : (l : List ℕ) → behind l ≡ drop headed (marked l)
+behind-is l = take-all (length (marked l) - headed) (drop headed (marked l)) (omega (arith, length-drop headed (marked l)))
+
+behind-long : (l : List ℕ) → length (behind l) ≡ length l - headed
+behind-long l =
+    ap length (behind-is l) ∙ length-drop headed (marked l)
+    ∙ ap (λ (n : ℕ). n - headed) (marked-long l)
+
+pub moved-count : (n start want k : ℕ) (l : List ℕ) → start < n → want ≤ n → k ≡ goes n start want (length (behind l)) → k ≡ min want (length l - headed)
+moved-count n start want k l h w e =
+    let one : min (min want n) (length l - headed) ≡ min want (length l - headed) = omega arith in
+    e ∙ rw (lt-ltb start n h, behind-long l) one
+
+pub reply-made : (ring l part : List ℕ) (start want k : ℕ) → headed ≤ length l → k ≡ goes (length ring) start want (length (behind l))
+    → part ≡ takeOut ring start want (behind l)
+    → set (putMid headed (length (marked l) - headed) (marked l) part) 3 k ≡ replyWith ring start k l
+unfolding replyWith takeOut
+reply-made ring [] part start want k h e p = absurd (omega arith)
+reply-made ring (a ∷ []) part start want k h e p = absurd (omega arith)
+reply-made ring (a ∷ b ∷ []) part start want k h e p = absurd (omega arith)
+reply-made ring (a ∷ b ∷ c ∷ []) part start want k h e p = absurd (omega arith)
+reply-made ring (a ∷ b ∷ c ∷ d ∷ rest) part start want k h e p =
+    let l : List ℕ = a ∷ b ∷ c ∷ d ∷ rest in
+    let all : length (marked l) - headed ≡ length rest = omega arith in
+    ap (λ (t : List ℕ). 0xA5 ∷ 0x5A ∷ 0x06 ∷ k ∷ t)
+    (ap (λ (n : ℕ). part ++ drop n rest) all
+    ∙ ap (λ (t : List ℕ). part ++ t) (drop-length rest)
+    ∙ append-nil part
+    ∙ p
+    ∙ ap (λ (j : ℕ). queue ring start j ++ drop j (behind l)) (sym e)
+    ∙ ap (λ (t : List ℕ). queue ring start k ++ drop k t) (behind-is l)
+    ∙ ap (λ (t : List ℕ). queue ring start k ++ t) (drop-drop k headed l))
+
+pub picture-read : (ring reply : List ℕ) (start k : ℕ) → take k (drop headed (replyWith ring start k reply)) ≡ queue ring start k
+unfolding replyWith
+picture-read ring reply start k = take-at (queue ring start k) (drop (headed + k) reply) k (length-queue ring start k)
+
+pub least-is : (stored most room want k : ℕ) → want ≡ min stored most → k ≡ min want (room - headed) → k ≡ least stored most room
+least-is stored most room want k w e = omega (arith, w, e)
+
+-- ---- the record
+module _ (r : Record) (n k : ℕ) (h : has (r .ring) n k ≡ true) where
+  left-is : left (r .ring) n k ≡ record { start = wrap n (r .ring .start + k); stored = r .ring .stored - k }
+  left-is = rw h
+
+  note-is : (b : Bool) → (finishing (r .scanner .state) && eqb (left (r .ring) n k .stored) 0) ≡ b → last k r ≡ b
+  note-is b e = ap (λ (g : Ring). finishing (r .scanner .state) && eqb (g .stored) 0) (sym left-is) ∙ e
+
+  pub noted-last : (finishing (r .scanner .state) && eqb (left (r .ring) n k .stored) 0) ≡ true
+      → _≡_ {A = AfterFetch} (record { next = drained (heard k (withRing (left (r .ring) n k) r)); answer = Fetched.Moved k true }) (noted k n r)
+  unfolding noted fetched moved
+  noted-last e = rw (note-is true e, left-is)
+
+  pub noted-more : (finishing (r .scanner .state) && eqb (left (r .ring) n k .stored) 0) ≡ false
+      → _≡_ {A = AfterFetch} (record { next = heard k (withRing (left (r .ring) n k) r); answer = Fetched.Moved k false }) (noted k n r)
+  unfolding noted fetched moved
+  noted-more e = rw (note-is false e, left-is)
+
+pub has-all : (g : Ring) (n k : ℕ) → g .start < n → g .stored ≤ n → k ≤ g .stored → has g n k ≡ true
+has-all g n k h s l = rw (lt-ltb (g .start) n h, le-leb (g .stored) n s, le-leb k (g .stored) l)

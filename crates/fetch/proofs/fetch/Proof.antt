@@ -1,0 +1,56 @@
+use borrow.Author.Needs.{needs}
+use Rattle.fetch.proofs.Handed.{picture-read}
+use Rattle.fetch.specs.Reply.{replyWith, noted}
+use Rattle.rules.proofs.Sound.{to-sound}
+use Rattle.rules.proofs.Guards.{went-on}
+use Rattle.answers.proofs.Leads.{leads, accept, hit, skip, tests}
+use Rattle.rules.specs.Machine.{step, refusals, scanRefusals, effect, scanEffect}
+use Rattle.fetch.proofs.fetch.Statement.{statement}
+use Rattle.fetch.proofs.fetch.Tie as tie
+
+sound-with-requires : tie.Need-sound-with-requires
+sound-with-requires c κs = search needs
+
+returns : tie.Need-returns
+unfolding step refusals scanRefusals effect scanEffect
+returns c = leads (hit (search tests))
+
+is-other-requires : tie.Need-is-other-requires
+is-other-requires c κs = search needs
+
+returns-2 : tie.Need-returns-2
+unfolding step refusals scanRefusals effect scanEffect
+returns-2 c = leads (skip (search tests) (hit (search tests)))
+
+returns-3 : tie.Need-returns-3
+unfolding step refusals scanRefusals effect scanEffect
+returns-3 c = leads (skip (search tests) (skip (search tests) (hit (search tests))))
+
+fetch-now-requires : tie.Need-fetch-now-requires
+fetch-now-requires c κs =
+    let first = c .before .before .before .before in
+    let fit = to-sound _ _ (went-on _ _ (first .before .sound-with .ensures) (first .if1 .left)) .common .ring in
+    (fit .start, fit .stored, c .before .if3 .left)
+
+same-length : tie.Need-same-length
+same-length c = search needs
+
+returns-4 : tie.Need-returns-4
+unfolding step refusals scanRefusals effect scanEffect noted replyWith
+returns-4 c =
+    let now = c .before .before in
+    rw (now .fetch-now .ensures .0, now .fetch-now .ensures .1)
+    (rw (picture-read _ _ _ _) (leads (skip (search tests) (skip (search tests) (skip (search tests) accept)))))
+
+pub fetch-spec : {M : Type 1} → statement M
+fetch-spec =
+    tie.close
+    (tie.spec
+    sound-with-requires
+    returns
+    is-other-requires
+    returns-2
+    returns-3
+    fetch-now-requires
+    same-length
+    returns-4)

@@ -1,0 +1,51 @@
+use mathlib.Core.Path.{sym, _∙_}
+use borrow.Author.Needs.{needs}
+use Rattle.fetch.proofs.Handed.{noted-last, noted-more, has-all}
+use Rattle.fetch.proofs.note.Statement.{statement}
+use Rattle.fetch.proofs.note.Tie as tie
+
+leave-requires : tie.Need-leave-requires
+leave-requires c κs = search needs
+
+hear-requires : tie.Need-hear-requires
+hear-requires c κs = search needs
+
+is-last-requires : tie.Need-is-last-requires
+is-last-requires c κs = search needs
+
+drain-requires : tie.Need-drain-requires
+drain-requires c κs = search needs
+
+cast-t9 : tie.Need-cast-t9
+cast-t9 c = search needs
+
+returns : tie.Need-returns
+returns c =
+    let start = c .before .before .before .before .before .before in
+    let has = has-all _ _ _ (start .pre .0) (start .pre .1) (start .pre .2) in
+    let left = c .before .before .before .before .leave .ensures in
+    rw (c .drain .ensures, c .before .before .before .hear .ensures, left)
+    (noted-last _ _ _ has (rw (sym left) (sym (c .before .before .is-last .ensures)) ∙ c .before .if1 .taken))
+
+cast-t11 : tie.Need-cast-t11
+cast-t11 c = search needs
+
+returns-2 : tie.Need-returns-2
+returns-2 c =
+    let start = c .before .before .before .before .before in
+    let has = has-all _ _ _ (start .pre .0) (start .pre .1) (start .pre .2) in
+    let left = c .before .before .before .leave .ensures in
+    rw (c .before .before .hear .ensures, left) (noted-more _ _ _ has (rw (sym left) (sym (c .before .is-last .ensures)) ∙ c .if1 .left))
+
+pub note-spec : {M : Type 1} → statement M
+note-spec =
+    tie.close
+    (tie.spec
+    leave-requires
+    hear-requires
+    is-last-requires
+    drain-requires
+    cast-t9
+    returns
+    cast-t11
+    returns-2)

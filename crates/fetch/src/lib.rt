@@ -1,0 +1,117 @@
+// Fetch by name.
+use answers::AfterFetch;
+use answers::Fetched;
+use answers::Why;
+use rules::Record;
+use rules::Ring;
+ghost use mathlib.Core.Path.{_≡_};
+ghost use mathlib.Core.Bool.{not, _||_, _&&_};
+ghost use Prim.Native.Nat.{_-_, _<_, _≤_, min};
+ghost use lib.Dec.{eqb};
+ghost use lib.ListN.{length};
+ghost use Rattle.rules.specs.Record.{idle, finishing};
+ghost use Rattle.rules.specs.Moves.{name, least};
+ghost use Rattle.rules.specs.Calls.{scan, Fetch};
+ghost use Rattle.rules.specs.Machine.{same, step};
+ghost use Rattle.answers.specs.Told.{stateOf, outcome, fetched};
+ghost use Rattle.fetch.specs.Reply.{replyWith, noted};
+
+// Idle, or not the present name.
+fn is_other(called: &[u8], r: Record) -> bool
+    ensures { λ b. ⌜ b ≡ (idle (r .scanner .state) || not (same (now (called .entry)) (name r))) ⌝ }
+{
+    let c = r.scanner;
+    let s = c.state;
+    let present = name::is_present(called, r);
+    state::scan::is_idle(s) | !present
+}
+
+// The smaller of what is stored and what is asked for.
+fn wanted(stored: usize, most: u8) -> usize
+    ensures { λ k. ⌜ k ≡ min stored most ⌝ }
+{
+    let most = most as usize;
+    if stored <= most { stored } else { most }
+}
+
+// The reply's head, and as many bytes straight after it as find room: how many.
+fn move_out(ring: &[u8], start: usize, want: usize, reply: &mut [u8]) -> usize
+    requires { ⌜ (start < length (now ring)) × (want ≤ length (now ring)) × (want < 256) × (4 ≤ length (now reply)) ⌝ }
+    ensures { λ k. ⌜ k ≡ min want (length (now (reply .entry)) - 4) ⌝ }
+    ensures { λ k. ⌜ now (reply .exit) ≡ replyWith (now (ring .entry)) start k (now (reply .entry)) ⌝ }
+{
+    reply[0] = 165;
+    reply[1] = 90;
+    reply[2] = 6;
+    let k = ring::take_out(ring, start, want, &mut reply[4..]);
+    reply[3] = k as u8;
+    k
+}
+
+// It leaves none stored in Finishing.
+fn is_last(left: Ring, r: Record) -> bool
+    ensures { λ b. ⌜ b ≡ (finishing (r .scanner .state) && eqb (left .stored) 0) ⌝ }
+{
+    let c = r.scanner;
+    let s = c.state;
+    let f = state::scan::is_finishing(s);
+    f & (left.stored == 0)
+}
+
+// Start moves on by k; the drain step follows the last byte.
+fn note(r: Record, len: usize, k: usize) -> AfterFetch
+    requires { ⌜ (r .ring .start < len) × (r .ring .stored ≤ len) × (k ≤ r .ring .stored) × (k < 256) ⌝ }
+    ensures { λ a. ⌜ a ≡ noted k len r ⌝ }
+{
+    let was = r.ring;
+    let left = ring::leave(was, len, k);
+    let n = moves::hear(k, left, r);
+    if is_last(left, r) {
+        return AfterFetch {
+            next: moves::drain(n),
+            answer: Fetched::Moved(k as u8, true),
+        };
+    }
+    AfterFetch {
+        next: n,
+        answer: Fetched::Moved(k as u8, false),
+    }
+}
+
+fn fetch_now(r: Record, ring: &[u8], most: u8, reply: &mut [u8]) -> AfterFetch
+    requires { ⌜ (r .ring .start < length (now ring)) × (r .ring .stored ≤ length (now ring)) × (4 ≤ length (now reply)) ⌝ }
+    ensures { λ a. ⌜ a ≡ noted (least (r .ring .stored) most (length (now (reply .entry)))) (length (now (ring .entry))) r ⌝ }
+    ensures { λ a. ⌜ now (reply .exit)
+        ≡ replyWith (now (ring .entry)) (r .ring .start) (least (r .ring .stored) most (length (now (reply .entry)))) (now (reply .entry)) ⌝ }
+{
+    let g = r.ring;
+    let start = g.start;
+    let want = wanted(g.stored, most);
+    let k = move_out(ring, start, want, reply);
+    note(r, ring.len(), k)
+}
+
+pub fn fetch(r: Record, ring: &[u8], called: &[u8], most: u8, reply: &mut [u8]) -> AfterFetch
+    ensures { λ a. ⌜ outcome (fetched (now (reply .exit)) (a .answer)) (a .next) (now (ring .entry)) (now (reply .exit))
+        ≡ step (stateOf r (now (ring .entry))) (scan (Fetch (now (called .entry)) most (now (reply .entry)))) ⌝ }
+{
+    if !state::sound_with(r, ring) {
+        return AfterFetch {
+            next: r,
+            answer: Fetched::Refused(Why::Unsound),
+        };
+    }
+    if is_other(called, r) {
+        return AfterFetch {
+            next: r,
+            answer: Fetched::Refused(Why::OtherName),
+        };
+    }
+    if reply.len() < 4 {
+        return AfterFetch {
+            next: r,
+            answer: Fetched::Refused(Why::NoRoom),
+        };
+    }
+    fetch_now(r, ring, most, reply)
+}
