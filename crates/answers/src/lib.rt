@@ -49,22 +49,10 @@ pub struct AfterCall {
 }
 
 impl AfterCall {
-    pub fn refused(why: Why, next: Record) -> AfterCall
-        ensures { λ a. ⌜ a ≡ record { next = next; answer = Done.Refused why } ⌝ }
+    pub fn told(answer: Done, next: Record) -> AfterCall
+        ensures { λ a. ⌜ a ≡ record { next = next; answer = answer } ⌝ }
     {
-        AfterCall {
-            next,
-            answer: Done::Refused(why),
-        }
-    }
-
-    pub fn accepted(next: Record) -> AfterCall
-        ensures { λ a. ⌜ a ≡ record { next = next; answer = Done.Accepted } ⌝ }
-    {
-        AfterCall {
-            next,
-            answer: Done::Accepted,
-        }
+        AfterCall { next, answer }
     }
 }
 
@@ -80,13 +68,10 @@ pub struct AfterStartScan {
 }
 
 impl AfterStartScan {
-    pub fn refused(why: Why, next: Record) -> AfterStartScan
-        ensures { λ a. ⌜ a ≡ record { next = next; answer = Granting.Refused why } ⌝ }
+    pub fn told(answer: Granting, next: Record) -> AfterStartScan
+        ensures { λ a. ⌜ a ≡ record { next = next; answer = answer } ⌝ }
     {
-        AfterStartScan {
-            next,
-            answer: Granting::Refused(why),
-        }
+        AfterStartScan { next, answer }
     }
 }
 

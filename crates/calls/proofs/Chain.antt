@@ -13,8 +13,9 @@ pub chained : {s t : State} {cs : List Call} {os : List Outcome} → Performed s
 unfolding runBy
 chained over = refl
 chained (next {s} {t} {c} {o} {cs} {os} e p) =
-    let rest : run (step s c .state) cs ≡ record { outcomes = os; end = t } = subst (λ (x : Outcome). run (x .state) cs ≡ record { outcomes = os; end = t }) e (chained p) in
-    ap (behind (step s c)) rest ∙ ap (λ (x : Outcome). behind x (record { outcomes = os; end = t })) (sym e)
+    let whole : Ran = record { outcomes = os; end = t } in
+    let rest : run (step s c .state) cs ≡ whole = subst (λ (x : Outcome). run (x .state) cs ≡ whole) e (chained p) in
+    ap (behind (step s c)) rest ∙ ap (λ (x : Outcome). behind x whole) (sym e)
 
 -- so what is performed is settled: two performances of one list from one box give and leave the same
 pub performed-alike : {s t u : State} {cs : List Call} {os ps : List Outcome} → Performed s cs os t → Performed s cs ps u

@@ -200,11 +200,12 @@ pub fn perform(
 ) -> After
     ensures { λ a. ⌜ outcome (answered (a .name) (now (reply .exit)) (a .answer)) (a .next) (now (ring .exit)) (shown request (now (reply .exit)))
         ≡ step (stateOf r (now (ring .entry))) (asked request (now (given .entry)) (now (reply .entry))) ⌝ }
-    ensures { λ a. ⌜ now (reply .exit) ≡ replied request (step (stateOf r (now (ring .entry))) (asked request (now (given .entry)) (now (reply .entry)))) (now (reply .entry)) ⌝ }
+    ensures { λ a. ⌜ now (reply .exit)
+        ≡ replied request (step (stateOf r (now (ring .entry))) (asked request (now (given .entry)) (now (reply .entry)))) (now (reply .entry)) ⌝ }
     ensures { λ a. ⌜ a .name ≡ padded (nameIn (step (stateOf r (now (ring .entry))) (asked request (now (given .entry)) (now (reply .entry))) .values)) ⌝ }
 {
     match request {
-        Request::StartScan(from, count, append, time) => after_start_scan(scan::start_scan(
+        Request::StartScan(from, count, append, time) => after_start_scan(scan::begin::start_scan(
             r,
             ring,
             from,
@@ -212,9 +213,15 @@ pub fn perform(
             append,
             time,
         )),
-        Request::Start(job, from, count) => after_call(scan::start(r, ring, job, from, count)),
-        Request::Stop(job) => after_call(scan::stop(r, ring, job)),
-        Request::Abort(job) => after_call(scan::abort(r, ring, job)),
+        Request::Start(job, from, count) => after_call(scan::begin::start(
+            r,
+            ring,
+            job,
+            from,
+            count,
+        )),
+        Request::Stop(job) => after_call(scan::end::stop(r, ring, job)),
+        Request::Abort(job) => after_call(scan::end::abort(r, ring, job)),
         Request::GetDestination(job) => after_get_destination(scan::told::get_destination(
             r,
             ring,
@@ -229,14 +236,14 @@ pub fn perform(
         Request::Load(job) => after_call(feeder::load(r, ring, job)),
         Request::Eject(job, value) => after_call(feeder::eject(r, ring, job, value)),
         Request::Reset(job) => after_call(feeder::reset(r, ring, job)),
-        Request::SetFeederMode(job, mode) => after_call(feeder::set_feeder_mode(
+        Request::SetFeederMode(job, mode) => after_call(feeder::mode::set_feeder_mode(
             r,
             ring,
             job,
             mode,
         )),
-        Request::GetFeederState => after_feeder_get_state(feeder::get_state(r, ring)),
-        Request::GetFeederMode => after_get_feeder_mode(feeder::get_feeder_mode(r, ring)),
+        Request::GetFeederState => after_feeder_get_state(feeder::mode::get_state(r, ring)),
+        Request::GetFeederMode => after_get_feeder_mode(feeder::mode::get_feeder_mode(r, ring)),
         Request::Bytes => after_bytes(report::bytes(r, ring, given)),
         Request::SideEnded => after_call(report::side_ended(r, ring)),
         Request::Tray(value) => after_call(report::tray(r, ring, value)),

@@ -1,20 +1,17 @@
 // The feeder calls: the job number must be the one held, 0 when Idle.
+pub mod mode;
+
 use answers::AfterCall;
-use answers::AfterFeederGetState;
-use answers::AfterGetFeederMode;
 use answers::Done;
-use answers::Feeding;
-use answers::Mode;
 use answers::Why;
 use rules::Record;
 ghost use mathlib.Core.Path.{_≡_};
 ghost use mathlib.Core.List.{[]};
-ghost use Rattle.rules.specs.Calls.{feeder, Load, Eject, Reset, SetFeederMode, GetFeederState, GetFeederMode};
-ghost use lib.Dec.{eqb};
-ghost use Rattle.rules.specs.Feeder.{unloads, loads, ejects, resets, simplex};
+ghost use Rattle.rules.specs.Calls.{feeder, Load, Eject, Reset};
+ghost use Rattle.rules.specs.Feeder.{unloads, loads, ejects, resets};
 ghost use Rattle.rules.specs.Moves.{withFeeder};
 ghost use Rattle.rules.specs.Machine.{step};
-ghost use Rattle.answers.specs.Told.{stateOf, outcome, done, fed, moded};
+ghost use Rattle.answers.specs.Told.{stateOf, outcome, done};
 
 // ---- the record with the feeder moved
 fn unloaded(r: Record) -> Record
@@ -53,27 +50,21 @@ pub fn load(r: Record, ring: &[u8], job: u32) -> AfterCall
     let f = r.feeder;
     let s = f.state;
     if !state::sound_with(r, ring) {
-        return AfterCall::refused(Why::Unsound, r);
+        return AfterCall::told(Done::Refused(Why::Unsound), r);
     }
     if state::asked::not_ours(job, r) {
-        return AfterCall::refused(Why::OtherJob, r);
+        return AfterCall::told(Done::Refused(Why::OtherJob), r);
     }
     if state::feed::is_busy(s) {
-        return AfterCall::refused(Why::WrongState, r);
+        return AfterCall::told(Done::Refused(Why::WrongState), r);
     }
     if state::feed::is_erred(s) {
-        return AfterCall::refused(Why::FeederErred, r);
+        return AfterCall::told(Done::Refused(Why::FeederErred), r);
     }
     if moves::feeder::is_loadless(f) {
-        return AfterCall {
-            next: unloaded(r),
-            answer: Done::Refused(Why::NoSheet),
-        };
+        return AfterCall::told(Done::Refused(Why::NoSheet), unloaded(r));
     }
-    AfterCall {
-        next: loaded(r),
-        answer: Done::Accepted,
-    }
+    AfterCall::told(Done::Accepted, loaded(r))
 }
 
 // Unloaded; 1 and 2 also set MorePages to 0.
@@ -83,24 +74,21 @@ pub fn eject(r: Record, ring: &[u8], job: u32, value: u8) -> AfterCall
     let f = r.feeder;
     let s = f.state;
     if !state::sound_with(r, ring) {
-        return AfterCall::refused(Why::Unsound, r);
+        return AfterCall::told(Done::Refused(Why::Unsound), r);
     }
     if !state::asked::is_listed(value) {
-        return AfterCall::refused(Why::Unlisted, r);
+        return AfterCall::told(Done::Refused(Why::Unlisted), r);
     }
     if state::asked::not_ours(job, r) {
-        return AfterCall::refused(Why::OtherJob, r);
+        return AfterCall::told(Done::Refused(Why::OtherJob), r);
     }
     if state::feed::is_busy(s) {
-        return AfterCall::refused(Why::WrongState, r);
+        return AfterCall::told(Done::Refused(Why::WrongState), r);
     }
     if state::feed::is_erred(s) {
-        return AfterCall::refused(Why::FeederErred, r);
+        return AfterCall::told(Done::Refused(Why::FeederErred), r);
     }
-    AfterCall {
-        next: ejected(value, r),
-        answer: Done::Accepted,
-    }
+    AfterCall::told(Done::Accepted, ejected(value, r))
 }
 
 // Erred with a clear path becomes Unloaded, none.
@@ -110,76 +98,13 @@ pub fn reset(r: Record, ring: &[u8], job: u32) -> AfterCall
     let f = r.feeder;
     let s = f.state;
     if !state::sound_with(r, ring) {
-        return AfterCall::refused(Why::Unsound, r);
+        return AfterCall::told(Done::Refused(Why::Unsound), r);
     }
     if state::asked::not_ours(job, r) {
-        return AfterCall::refused(Why::OtherJob, r);
+        return AfterCall::told(Done::Refused(Why::OtherJob), r);
     }
     if state::feed::is_busy(s) {
-        return AfterCall::refused(Why::WrongState, r);
+        return AfterCall::told(Done::Refused(Why::WrongState), r);
     }
-    AfterCall {
-        next: cleared(r),
-        answer: Done::Accepted,
-    }
-}
-
-fn is_simplex(mode: u8) -> bool
-    ensures { λ b. ⌜ b ≡ eqb mode simplex ⌝ }
-{
-    mode == 0
-}
-
-// The one mode is 0, Simplex.
-pub fn set_feeder_mode(r: Record, ring: &[u8], job: u32, mode: u8) -> AfterCall
-    ensures { λ a. ⌜ outcome (done (a .answer)) (a .next) (now (ring .entry)) [] ≡ step (stateOf r (now (ring .entry))) (feeder (SetFeederMode job mode)) ⌝ }
-{
-    let f = r.feeder;
-    let s = f.state;
-    if !state::sound_with(r, ring) {
-        return AfterCall::refused(Why::Unsound, r);
-    }
-    if !is_simplex(mode) {
-        return AfterCall::refused(Why::Unlisted, r);
-    }
-    if state::asked::not_ours(job, r) {
-        return AfterCall::refused(Why::OtherJob, r);
-    }
-    if !state::feed::is_unloaded(s) {
-        return AfterCall::refused(Why::WrongState, r);
-    }
-    AfterCall::accepted(r)
-}
-
-pub fn get_feeder_mode(r: Record, ring: &[u8]) -> AfterGetFeederMode
-    ensures { λ a. ⌜ outcome (moded (a .answer)) (a .next) (now (ring .entry)) [] ≡ step (stateOf r (now (ring .entry))) (feeder GetFeederMode) ⌝ }
-{
-    if !state::sound_with(r, ring) {
-        return AfterGetFeederMode {
-            next: r,
-            answer: Mode::Refused(Why::Unsound),
-        };
-    }
-    AfterGetFeederMode {
-        next: r,
-        answer: Mode::At(0),
-    }
-}
-
-pub fn get_state(r: Record, ring: &[u8]) -> AfterFeederGetState
-    ensures { λ a. ⌜ outcome (fed (a .answer)) (a .next) (now (ring .entry)) [] ≡ step (stateOf r (now (ring .entry))) (feeder GetFeederState) ⌝ }
-{
-    let f = r.feeder;
-    let s = f.state;
-    let why = f.failure;
-    if !state::sound_with(r, ring) {
-        return AfterFeederGetState {
-            next: r,
-            answer: Feeding::Refused(Why::Unsound),
-        };
-    }
-    AfterFeederGetState {
-        next: r,
-        answer: Feeding::At(s, f.tray, why),
-    }
+    AfterCall::told(Done::Accepted, cleared(r))
 }

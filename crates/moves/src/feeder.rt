@@ -6,13 +6,24 @@ ghost use mathlib.Core.Path.{_≡_};
 ghost use mathlib.Core.Bool.{cond, _&&_};
 ghost use lib.Dec.{eqb};
 ghost use Rattle.rules.specs.Record.{on, stuck};
-ghost use Rattle.rules.specs.Feeder.{stands, trayAt, pathAt, loadless, taken, freed, late, jammed, unloads, loads, ejects, resets};
+ghost use Rattle.rules.specs.Feeder.{stands, fails, trayAt, pathAt, loadless, taken, freed, late, jammed, unloads, loads, ejects, resets};
 ghost use Rattle.rules.specs.Moves.{jamStops, sheetStops};
 
 fn stand(state: Feed, f: Feeder) -> Feeder
     ensures { λ n. ⌜ n ≡ stands state f ⌝ }
 {
     let failure = f.failure;
+    Feeder {
+        state,
+        failure,
+        tray: f.tray,
+        path: f.path,
+    }
+}
+
+fn fail(state: Feed, failure: Failure, f: Feeder) -> Feeder
+    ensures { λ n. ⌜ n ≡ fails state failure f ⌝ }
+{
     Feeder {
         state,
         failure,
@@ -73,12 +84,7 @@ pub fn be_late(f: Feeder) -> Feeder
 {
     let s = f.state;
     if state::feed::is_busy(s) {
-        return Feeder {
-            state: Feed::Erred,
-            failure: Failure::Timeout,
-            tray: f.tray,
-            path: f.path,
-        };
+        return fail(Feed::Erred, Failure::Timeout, f);
     }
     f
 }
@@ -134,12 +140,7 @@ pub fn reset(f: Feeder) -> Feeder
     ensures { λ n. ⌜ n ≡ resets f ⌝ }
 {
     if is_clear(f) {
-        return Feeder {
-            state: Feed::Unloaded,
-            failure: Failure::None,
-            tray: f.tray,
-            path: f.path,
-        };
+        return fail(Feed::Unloaded, Failure::None, f);
     }
     f
 }

@@ -16,7 +16,7 @@ fn next_job(r: Record) -> u32
 {
     let j = r.job;
     let last = j.last;
-    if last == 4294967295 { 1 } else { last + 1 }
+    if last == Job::GREATEST { 1 } else { last + 1 }
 }
 
 // The setting Append, the job and its time stored.

@@ -10,6 +10,7 @@ use rules::Record;
 use rules::Ring;
 use rules::Scan;
 use rules::Scanner;
+use rules::Side;
 ghost use mathlib.Core.Path.{_≡_};
 ghost use Rattle.rules.specs.Moves.{withFeeder, withRing, standing, quietAt, stopAt, emptied, heard, begun, announced, released, ended, timedOut, faulted};
 ghost use Rattle.rules.specs.Moves.{waited, numbered, drainedOn, drained};
@@ -88,8 +89,8 @@ pub fn begin(r: Record) -> Record
 }
 
 // ---- end of job
-fn release(why: Failure, f: Feeder, r: Record) -> Record
-    ensures { λ n. ⌜ n ≡ released why f r ⌝ }
+fn release(why: Failure, left: Feeder, r: Record) -> Record
+    ensures { λ n. ⌜ n ≡ released why left r ⌝ }
 {
     let mut n = r;
     let scanner = Scanner {
@@ -102,7 +103,7 @@ fn release(why: Failure, f: Feeder, r: Record) -> Record
     n.job.stop = 0;
     n.side.number = 1;
     n.side.count = 0;
-    n.feeder = f;
+    n.feeder = left;
     let ring = Ring {
         start: 0,
         stored: 0,
@@ -148,10 +149,10 @@ fn wait(r: Record) -> Record
 {
     let p = stand(Scan::Pending, r);
     let d = r.side;
-    if d.count == 4294967295 {
-        let mut n = p;
-        n.side.count = 0;
-        return n;
+    if d.count == Side::ENDLESS {
+        let mut w = p;
+        w.side.count = 0;
+        return w;
     }
     p
 }
@@ -162,7 +163,7 @@ fn number(r: Record) -> Record
 {
     let d = r.side;
     let mut n = r;
-    if d.number < 999 {
+    if d.number < Side::LAST {
         let next = d.number + 1;
         n.side.number = next;
         return n;

@@ -1,4 +1,6 @@
 // The numbers of a side and its settings.
+use rules::Settings;
+use rules::Side;
 ghost use mathlib.Core.Path.{_≡_};
 ghost use Rattle.rules.specs.Moves.{risen, settled, storedSides, fallen};
 
@@ -13,27 +15,31 @@ pub fn raise(d: u32) -> u32
 pub fn settle(asked: u8, kept: u8) -> u8
     ensures { λ n. ⌜ n ≡ settled asked kept ⌝ }
 {
-    if asked == 2 { kept } else { asked }
+    if asked == Settings::DEVICE {
+        kept
+    } else {
+        asked
+    }
 }
 
 // −1 on the glass is stored as 1.
-pub fn stored_sides(from: u8, count: u32) -> u32
-    ensures { λ n. ⌜ n ≡ storedSides from count ⌝ }
+pub fn stored_sides(from: u8, asked: u32) -> u32
+    ensures { λ n. ⌜ n ≡ storedSides from asked ⌝ }
 {
     if from == 1 {
-        return count;
+        return asked;
     }
-    if count == 4294967295 {
+    if asked == Side::ENDLESS {
         return 1;
     }
-    count
+    asked
 }
 
 // A positive SideCount falls by one, −1 stays.
 pub fn fall(count: u32) -> u32
     ensures { λ n. ⌜ n ≡ fallen count ⌝ }
 {
-    if count == 4294967295 {
+    if count == Side::ENDLESS {
         return count;
     }
     if count == 0 {

@@ -12,7 +12,8 @@ ghost use Prim.Native.Nat.{_+_, _≤_};
 ghost use Rattle.rules.specs.Feeder.{trayAt};
 ghost use Rattle.rules.specs.Moves.{withFeeder, filled};
 ghost use Rattle.rules.specs.Calls.{report, Bytes, SideEnded, Tray, Path, Tick};
-ghost use Rattle.rules.specs.Machine.{step};
+ghost use lib.ListN.{replicate};
+ghost use Rattle.rules.specs.Machine.{step, run};
 ghost use Rattle.answers.specs.Told.{stateOf, outcome, done, put};
 
 // k bytes more are stored; a sign of life where that is 1 or more.
@@ -66,15 +67,12 @@ pub fn side_ended(r: Record, ring: &[u8]) -> AfterCall
     let c = r.scanner;
     let s = c.state;
     if !state::sound_with(r, ring) {
-        return AfterCall::refused(Why::Unsound, r);
+        return AfterCall::told(Done::Refused(Why::Unsound), r);
     }
     if !state::scan::is_scanning(s) {
-        return AfterCall::refused(Why::WrongState, r);
+        return AfterCall::told(Done::Refused(Why::WrongState), r);
     }
-    AfterCall {
-        next: moves::report::end_side(r),
-        answer: Done::Accepted,
-    }
+    AfterCall::told(Done::Accepted, moves::report::end_side(r))
 }
 
 fn with_tray(value: u8, r: Record) -> Record
@@ -88,40 +86,45 @@ pub fn tray(r: Record, ring: &[u8], value: u8) -> AfterCall
     ensures { λ a. ⌜ outcome (done (a .answer)) (a .next) (now (ring .entry)) [] ≡ step (stateOf r (now (ring .entry))) (report (Tray value)) ⌝ }
 {
     if !state::sound_with(r, ring) {
-        return AfterCall::refused(Why::Unsound, r);
+        return AfterCall::told(Done::Refused(Why::Unsound), r);
     }
     if !state::asked::is_marked(value) {
-        return AfterCall::refused(Why::Unlisted, r);
+        return AfterCall::told(Done::Refused(Why::Unlisted), r);
     }
-    AfterCall {
-        next: with_tray(value, r),
-        answer: Done::Accepted,
-    }
+    AfterCall::told(Done::Accepted, with_tray(value, r))
 }
 
 pub fn path(r: Record, ring: &[u8], value: u8) -> AfterCall
     ensures { λ a. ⌜ outcome (done (a .answer)) (a .next) (now (ring .entry)) [] ≡ step (stateOf r (now (ring .entry))) (report (Path value)) ⌝ }
 {
     if !state::sound_with(r, ring) {
-        return AfterCall::refused(Why::Unsound, r);
+        return AfterCall::told(Done::Refused(Why::Unsound), r);
     }
     if !state::asked::is_marked(value) {
-        return AfterCall::refused(Why::Unlisted, r);
+        return AfterCall::told(Done::Refused(Why::Unlisted), r);
     }
-    AfterCall {
-        next: moves::report::set_path(value, r),
-        answer: Done::Accepted,
-    }
+    AfterCall::told(Done::Accepted, moves::report::set_path(value, r))
 }
 
 pub fn tick(r: Record, ring: &[u8]) -> AfterCall
     ensures { λ a. ⌜ outcome (done (a .answer)) (a .next) (now (ring .entry)) [] ≡ step (stateOf r (now (ring .entry))) (report Tick) ⌝ }
 {
     if !state::sound_with(r, ring) {
-        return AfterCall::refused(Why::Unsound, r);
+        return AfterCall::told(Done::Refused(Why::Unsound), r);
     }
-    AfterCall {
-        next: moves::report::tick(r),
-        answer: Done::Accepted,
+    AfterCall::told(Done::Accepted, moves::report::tick(r))
+}
+
+// So many seconds, one Tick after the other: the record that they leave.
+pub fn ticks(r: Record, ring: &[u8], seconds: u32) -> Record
+    ensures { λ n. ⌜ n ≡ run (stateOf r (now (ring .entry))) (replicate seconds (report Tick)) .end .box ⌝ }
+{
+    let mut last = r;
+    let mut passed: u32 = 0;
+    while passed < seconds {
+        let a = tick(last, ring);
+        last = a.next;
+        passed += 1;
     }
+    last
 }

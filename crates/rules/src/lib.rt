@@ -81,7 +81,33 @@ pub struct Record {
     pub ring: Ring,
 }
 
+impl Job {
+    // The greatest job number.
+    pub const GREATEST: u32 = 4294967295;
+}
+
+impl Side {
+    // SideCount −1.
+    pub const ENDLESS: u32 = 4294967295;
+
+    pub const MOST: u32 = 999;
+
+    pub const LAST: u16 = 999;
+}
+
+impl Settings {
+    // Device-setting: keep the setting.
+    pub const DEVICE: u8 = 2;
+}
+
+impl Ring {
+    pub const MOST: usize = 65536;
+}
+
 impl Granted {
+    // In a fault.
+    pub const FAULT: u16 = 300;
+
     pub const LEAST: u16 = 5;
 
     pub const MOST: u16 = 600;

@@ -1,5 +1,6 @@
 // The tests of what a call brings: values in their lists, and the job number.
 use rules::Record;
+use rules::Settings;
 ghost use mathlib.Core.Path.{_≡_};
 ghost use Rattle.rules.specs.Record.{marked};
 ghost use Rattle.rules.specs.Machine.{listed, notHeld, notOurs};
@@ -8,7 +9,7 @@ ghost use Rattle.rules.specs.Machine.{listed, notHeld, notOurs};
 pub fn is_listed(value: u8) -> bool
     ensures { λ b. ⌜ b ≡ listed value ⌝ }
 {
-    value <= 2
+    value <= Settings::DEVICE
 }
 
 // 0 or 1.

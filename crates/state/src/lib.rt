@@ -5,6 +5,7 @@ pub mod scan;
 
 use rules::Feed;
 use rules::Feeder;
+use rules::Granted;
 use rules::Job;
 use rules::Record;
 use rules::Ring;
@@ -36,11 +37,11 @@ fn held_sound(s: Scan, j: Job, d: Side) -> bool
     let held = !scan::is_idle(s);
     let g = j.granted.seconds;
     let limit = scan::limit_of(s, g);
-    (d.number <= 999)
-        & ((d.count <= 999) | (d.count == 4294967295))
+    (d.number <= Side::LAST)
+        & ((d.count <= Side::MOST) | (d.count == Side::ENDLESS))
         & (!held | (j.held == j.last))
-        & (!held | (5 <= g))
-        & (!held | (g <= 600))
+        & (!held | (Granted::LEAST <= g))
+        & (!held | (g <= Granted::MOST))
         & (!held | (j.quiet < limit))
 }
 
@@ -51,7 +52,7 @@ fn ring_sound(s: Scan, g: Ring, len: usize) -> bool
     let f = scan::is_finishing(s);
     let outside = !(scan::is_scanning(s) | f);
     (1 <= len)
-        & (len <= 65536)
+        & (len <= Ring::MOST)
         & (g.start < len)
         & (g.stored <= len)
         & (!outside | (g.stored == 0))

@@ -1,4 +1,5 @@
 // The scan state's tests, and the limit of quiet in it.
+use rules::Granted;
 use rules::Scan;
 ghost use mathlib.Core.Path.{_≡_};
 ghost use Rattle.rules.specs.Record.{idle, pending, scanning, finishing, erred, limit};
@@ -72,6 +73,6 @@ pub fn limit_of(s: Scan, granted: u16) -> u16
         Scan::Pending => granted,
         Scan::Scanning => granted,
         Scan::Finishing => granted,
-        Scan::Erred => 300,
+        Scan::Erred => Granted::FAULT,
     }
 }

@@ -1,3 +1,4 @@
+-- `feeder::cleared`: the callees' equations, one after the other.
 use borrow.Author.Needs.{needs}
 use Rattle.feeder.proofs.cleared.Statement.{statement}
 use Rattle.feeder.proofs.cleared.Tie as tie

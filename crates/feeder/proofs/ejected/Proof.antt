@@ -1,3 +1,4 @@
+-- `feeder::ejected`: the callees' equations, one after the other.
 use borrow.Author.Needs.{needs}
 use Rattle.feeder.proofs.ejected.Statement.{statement}
 use Rattle.feeder.proofs.ejected.Tie as tie

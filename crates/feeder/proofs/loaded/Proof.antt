@@ -1,3 +1,4 @@
+-- `feeder::loaded`: the callees' equations, one after the other.
 use borrow.Author.Needs.{needs}
 use Rattle.feeder.proofs.loaded.Statement.{statement}
 use Rattle.feeder.proofs.loaded.Tie as tie

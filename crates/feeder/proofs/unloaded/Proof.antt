@@ -1,3 +1,4 @@
+-- `feeder::unloaded`: the callees' equations, one after the other.
 use borrow.Author.Needs.{needs}
 use Rattle.feeder.proofs.unloaded.Statement.{statement}
 use Rattle.feeder.proofs.unloaded.Tie as tie

@@ -1,3 +1,4 @@
+-- `fetch::fetch`: each return walks the call's refusals up to the test that answered (`Leads`).
 use borrow.Author.Needs.{needs}
 use Rattle.fetch.proofs.Handed.{picture-read}
 use Rattle.fetch.specs.Reply.{replyWith, noted}

@@ -1,3 +1,4 @@
+-- `fetch::move_out`: what is handed over (`Handed`).
 use Prim.Native.Nat.{_-_}
 use mathlib.Core.Path.{_∙_}
 use native.Mathlib.Omega.{arith}
@@ -34,7 +35,8 @@ cast-reply : tie.Need-cast-reply
 cast-reply c =
     let start = c .before .before .before .before .before .before in
     let a = start .args in
-    let k = moved-count (length (a .ring .now)) (a .start) (a .want) _ (a .reply .now) (start .pre .0) (start .pre .1) (c .before .before .take-out .ensures .0) in
+    let out = c .before .before .take-out .ensures in
+    let k = moved-count (length (a .ring .now)) (a .start) (a .want) _ (a .reply .now) (start .pre .0) (start .pre .1) (out .0) in
     omega (arith, k, start .pre .2)
 
 slice-write-reply-4 : tie.Need-slice-write-reply-4

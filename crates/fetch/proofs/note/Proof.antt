@@ -1,3 +1,4 @@
+-- `fetch::note`: what is handed over (`Handed`).
 use mathlib.Core.Path.{sym, _∙_}
 use borrow.Author.Needs.{needs}
 use Rattle.fetch.proofs.Handed.{noted-last, noted-more, has-all}

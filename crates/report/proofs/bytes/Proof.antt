@@ -1,3 +1,4 @@
+-- `report::bytes`: each return walks the call's refusals up to the test that answered (`Leads`).
 use borrow.Author.Needs.{needs}
 use Rattle.report.proofs.Room.{no-room, some-room, room-left}
 use Rattle.rules.proofs.Guards.{went-on, stopped-at}
@@ -33,9 +34,11 @@ returns-3 c =
     let second = put .before .before in
     let first = second .before .before in
     let sound = went-on _ _ (first .before .is-sound .ensures) (first .if1 .left) in
+    let passed = through-not (first .before .is-sound .ensures) (first .if1 .left) in
+    let scans = through-not (second .before .is-scanning .ensures) (second .if2 .left) in
     let full = no-room _ _ _ _ sound (put .put-in .ensures .0) (c .if3 .taken) in
     rw (put .put-in .ensures .1, stopped-at _ _ (put .put-in .ensures .0) (c .if3 .taken))
-    (leads (skip (through-not (first .before .is-sound .ensures) (first .if1 .left)) (skip (through-not (second .before .is-scanning .ensures) (second .if2 .left)) (hit full))))
+    (leads (skip passed (skip scans (hit full))))
 
 fuller-requires : tie.Need-fuller-requires
 fuller-requires c κs =
@@ -55,9 +58,11 @@ returns-4 c =
     let second = put .before .before in
     let first = second .before .before in
     let sound = went-on _ _ (first .before .is-sound .ensures) (first .if1 .left) in
+    let passed = through-not (first .before .is-sound .ensures) (first .if1 .left) in
+    let scans = through-not (second .before .is-scanning .ensures) (second .if2 .left) in
     let room = some-room _ _ _ _ sound (put .put-in .ensures .0) (c .before .if3 .left) in
     rw (c .fuller .ensures, put .put-in .ensures .1, went-on _ _ (put .put-in .ensures .0) (c .before .if3 .left))
-    (leads (skip (through-not (first .before .is-sound .ensures) (first .if1 .left)) (skip (through-not (second .before .is-scanning .ensures) (second .if2 .left)) (skip room accept))))
+    (leads (skip passed (skip scans (skip room accept))))
 
 pub bytes-spec : {M : Type 1} → statement M
 bytes-spec =

@@ -1,3 +1,4 @@
+-- `state::feeder_sound`: the callees' equations, one after the other.
 use borrow.Author.Needs.{needs}
 use Rattle.state.proofs.feeder_sound.Statement.{statement}
 use Rattle.state.proofs.feeder_sound.Tie as tie
@@ -12,7 +13,9 @@ is-finishing-requires : tie.Need-is-finishing-requires
 is-finishing-requires c κs = search needs
 
 returns : tie.Need-returns
-returns c = rw (c .before .before .before .before .is-finishing .ensures, c .before .before .before .before .before .is-scanning .ensures, c .before .before .before .before .before .before .is-busy .ensures)
+returns c =
+    let tests = c .before .before .before .before in
+    rw (tests .is-finishing .ensures, tests .before .is-scanning .ensures, tests .before .before .is-busy .ensures)
 
 pub feeder-sound-spec : {M : Type 1} → statement M
 feeder-sound-spec =

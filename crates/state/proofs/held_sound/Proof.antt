@@ -1,3 +1,4 @@
+-- `state::held_sound`: the callees' equations, one after the other.
 use borrow.Author.Needs.{needs}
 use Rattle.state.proofs.held_sound.Statement.{statement}
 use Rattle.state.proofs.held_sound.Tie as tie

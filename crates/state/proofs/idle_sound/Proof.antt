@@ -1,3 +1,4 @@
+-- `state::idle_sound`: the callees' equations, one after the other.
 use borrow.Author.Needs.{needs}
 use Rattle.state.proofs.idle_sound.Statement.{statement}
 use Rattle.state.proofs.idle_sound.Tie as tie

@@ -1,3 +1,4 @@
+-- `state::is_sound`: the callees' equations, one after the other.
 use borrow.Author.Needs.{needs}
 use Rattle.rules.specs.Record.{sound}
 use Rattle.state.proofs.is_sound.Statement.{statement}

@@ -1,3 +1,4 @@
+-- `state::ring_sound`: the callees' equations, one after the other.
 use borrow.Author.Needs.{needs}
 use Rattle.state.proofs.ring_sound.Statement.{statement}
 use Rattle.state.proofs.ring_sound.Tie as tie

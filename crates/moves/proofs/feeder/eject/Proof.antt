@@ -1,3 +1,4 @@
+-- `moves::feeder::eject`: the test decides which value the definition takes.
 use borrow.Author.Tests.{eq-eqb, ne-eqb}
 use Rattle.moves.proofs.feeder.eject.Statement.{statement}
 use Rattle.moves.proofs.feeder.eject.Tie as tie

@@ -1,3 +1,4 @@
+-- `moves::feeder::is_clear`: the callees' equations, one after the other.
 use borrow.Author.Needs.{needs}
 use Rattle.moves.proofs.feeder.is_clear.Statement.{statement}
 use Rattle.moves.proofs.feeder.is_clear.Tie as tie

@@ -1,3 +1,4 @@
+-- `moves::feeder::jam_stops`: the callees' equations, one after the other.
 use borrow.Author.Needs.{needs}
 use Rattle.moves.proofs.feeder.jam_stops.Statement.{statement}
 use Rattle.moves.proofs.feeder.jam_stops.Tie as tie

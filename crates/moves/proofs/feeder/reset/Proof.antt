@@ -1,10 +1,16 @@
-use borrow.Author.Needs.{needs}
+-- `moves::feeder::reset`: each return is an arm of the definition's test (`Guards`).
 use Rattle.rules.proofs.Guards.{guards, numbers}
+use lib.ListN.{length-set}
+use native.Mathlib.Omega.{arith}
+use borrow.Author.Needs.{needs}
 use Rattle.moves.proofs.feeder.reset.Statement.{statement}
 use Rattle.moves.proofs.feeder.reset.Tie as tie
 
 is-clear-requires : tie.Need-is-clear-requires
 is-clear-requires c κs = search needs
+
+fail-requires : tie.Need-fail-requires
+fail-requires c κs = search needs
 
 returns : tie.Need-returns
 returns c = search (needs, guards, numbers) depth 12
@@ -13,4 +19,4 @@ returns-2 : tie.Need-returns-2
 returns-2 c = search (needs, guards, numbers) depth 12
 
 pub reset-spec : {M : Type 1} → statement M
-reset-spec = tie.close (tie.spec is-clear-requires returns returns-2)
+reset-spec = tie.close (tie.spec is-clear-requires fail-requires returns returns-2)

@@ -1,3 +1,4 @@
+-- `moves::feeder::sheet_stops`: the callees' equations, one after the other.
 use borrow.Author.Needs.{needs}
 use Rattle.moves.proofs.feeder.sheet_stops.Statement.{statement}
 use Rattle.moves.proofs.feeder.sheet_stops.Tie as tie

@@ -1,3 +1,4 @@
+-- `moves::feeder::take_from`: each return is an arm of the definition's test (`Guards`).
 use borrow.Author.Needs.{needs}
 use Rattle.rules.proofs.Guards.{guards, numbers}
 use Rattle.moves.proofs.feeder.take_from.Statement.{statement}

@@ -1,3 +1,4 @@
+-- `moves::job::give`: the callees' equations, one after the other.
 use borrow.Author.Needs.{needs}
 use Rattle.rules.specs.Moves.{given}
 use Rattle.moves.proofs.job.give.Statement.{statement}

@@ -1,3 +1,4 @@
+-- `moves::job::ready`: the callees' equations, one after the other.
 use borrow.Author.Needs.{needs}
 use Rattle.rules.specs.Moves.{readied}
 use Rattle.moves.proofs.job.ready.Statement.{statement}

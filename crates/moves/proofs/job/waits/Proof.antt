@@ -1,3 +1,4 @@
+-- `moves::job::waits`: the callees' equations, one after the other.
 use borrow.Author.Needs.{needs}
 use Rattle.moves.proofs.job.waits.Statement.{statement}
 use Rattle.moves.proofs.job.waits.Tie as tie

@@ -1,3 +1,4 @@
+-- `moves::report::catch`: the callees' equations, one after the other.
 use borrow.Author.Needs.{needs}
 use Rattle.moves.proofs.report.catch.Statement.{statement}
 use Rattle.moves.proofs.report.catch.Tie as tie

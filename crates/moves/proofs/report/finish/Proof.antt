@@ -1,3 +1,4 @@
+-- `moves::report::finish`: the callees' equations, one after the other.
 use borrow.Author.Needs.{needs}
 use Rattle.rules.specs.Moves.{finished}
 use Rattle.moves.proofs.report.finish.Statement.{statement}

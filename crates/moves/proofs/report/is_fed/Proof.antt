@@ -1,3 +1,4 @@
+-- `moves::report::is_fed`: the callees' equations, one after the other.
 use borrow.Author.Needs.{needs}
 use Rattle.moves.proofs.report.is_fed.Statement.{statement}
 use Rattle.moves.proofs.report.is_fed.Tie as tie

@@ -1,3 +1,4 @@
+-- `moves::report::pass_second`: each return is an arm of the definition's test (`Guards`).
 use borrow.Author.Needs.{needs}
 use Rattle.rules.proofs.Guards.{guards, numbers}
 use Rattle.moves.proofs.report.pass_second.Statement.{statement}

@@ -1,3 +1,4 @@
+-- `moves::report::tick`: each return is an arm of the definition's test (`Guards`).
 use borrow.Author.Needs.{needs}
 use Rattle.rules.specs.Moves.{ticked}
 use Rattle.rules.proofs.Guards.{guards, numbers}

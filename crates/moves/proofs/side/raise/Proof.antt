@@ -1,3 +1,4 @@
+-- `moves::side::raise`: the wrapping sum, at the wrap too (`Wrap`).
 use mathlib.Core.Path.{_∙_}
 use borrow.Author.Needs.{needs}
 use Rattle.moves.proofs.Wrap.{wrap-risen}
@@ -8,7 +9,7 @@ wrapping-add-u32-requires : tie.Need-wrapping-add-u32-requires
 wrapping-add-u32-requires c κs = search needs
 
 returns : tie.Need-returns
-returns c = c .wrapping-add-u32 .ensures ∙ wrap-risen _ (search needs)
+returns c = c .wrapping-add-u32 .ensures ∙ wrap-risen (c .before .args .d) (search needs)
 
 pub raise-spec : {M : Type 1} → statement M
 raise-spec = tie.close (tie.spec wrapping-add-u32-requires returns)

@@ -1,3 +1,4 @@
+-- `moves::side::stored_sides`: each return is an arm of the definition's test (`Guards`).
 use borrow.Author.Needs.{needs}
 use Rattle.rules.proofs.Guards.{guards, numbers}
 use Rattle.moves.proofs.side.stored_sides.Statement.{statement}

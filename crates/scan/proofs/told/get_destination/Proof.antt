@@ -1,3 +1,4 @@
+-- `scan::told::get_destination`: each return walks the call's refusals up to the test that answered (`Leads`).
 use mathlib.Core.Path.{refl}
 use borrow.Author.Needs.{needs}
 use Rattle.rules.specs.Moves.{name}

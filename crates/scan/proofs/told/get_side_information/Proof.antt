@@ -1,3 +1,4 @@
+-- `scan::told::get_side_information`: each return walks the call's refusals up to the test that answered (`Leads`).
 use borrow.Author.Needs.{needs}
 use Rattle.rules.specs.Machine.{step, refusals, scanRefusals, effect, scanEffect}
 use Rattle.answers.proofs.Leads.{leads, accept, hit, skip, tests}

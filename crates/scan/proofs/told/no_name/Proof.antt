@@ -1,3 +1,4 @@
+-- `scan::told::no_name`: the definition, unfolded, is what the code writes.
 use mathlib.Core.Path.{refl}
 use Rattle.answers.specs.Told.{padded}
 use Rattle.scan.proofs.told.no_name.Statement.{statement}

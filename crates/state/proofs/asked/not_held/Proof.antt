@@ -1,3 +1,4 @@
+-- `state::asked::not_held`: the callees' equations, one after the other.
 use borrow.Author.Needs.{needs}
 use Rattle.state.proofs.asked.not_held.Statement.{statement}
 use Rattle.state.proofs.asked.not_held.Tie as tie

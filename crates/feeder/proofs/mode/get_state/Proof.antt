@@ -1,0 +1,20 @@
+-- `feeder::mode::get_state`: each return walks the call's refusals up to the test that answered (`Leads`).
+use borrow.Author.Needs.{needs}
+use Rattle.rules.specs.Machine.{step, refusals, feederRefusals, effect, feederEffect}
+use Rattle.answers.proofs.Leads.{leads, accept, hit, skip, tests}
+use Rattle.feeder.proofs.mode.get_state.Statement.{statement}
+use Rattle.feeder.proofs.mode.get_state.Tie as tie
+
+sound-with-requires : tie.Need-sound-with-requires
+sound-with-requires c κs = search needs
+
+returns : tie.Need-returns
+unfolding step refusals feederRefusals effect feederEffect
+returns c = leads (hit (search tests))
+
+returns-2 : tie.Need-returns-2
+unfolding step refusals feederRefusals effect feederEffect
+returns-2 c = leads (skip (search tests) accept)
+
+pub get-state-spec : {M : Type 1} → statement M
+get-state-spec = tie.close (tie.spec sound-with-requires returns returns-2)

@@ -1,0 +1,72 @@
+-- `feeder::mode::set_feeder_mode`: each return walks the call's refusals up to the test that answered (`Leads`).
+use borrow.Author.Needs.{needs}
+use Rattle.rules.specs.Machine.{step, refusals, feederRefusals, effect, feederEffect}
+use Rattle.answers.proofs.Leads.{leads, accept, hit, skip, tests}
+use Rattle.feeder.proofs.mode.set_feeder_mode.Statement.{statement}
+use Rattle.feeder.proofs.mode.set_feeder_mode.Tie as tie
+
+sound-with-requires : tie.Need-sound-with-requires
+sound-with-requires c κs = search needs
+
+told-requires : tie.Need-told-requires
+told-requires c κs = search needs
+
+returns : tie.Need-returns
+unfolding step refusals feederRefusals effect feederEffect
+returns c = rw (c .told .ensures) (leads (hit (search tests)))
+
+is-simplex-requires : tie.Need-is-simplex-requires
+is-simplex-requires c κs = search needs
+
+told-requires-2 : tie.Need-told-requires-2
+told-requires-2 c κs = search needs
+
+returns-2 : tie.Need-returns-2
+unfolding step refusals feederRefusals effect feederEffect
+returns-2 c = rw (c .told2 .ensures) (leads (skip (search tests) (hit (search tests))))
+
+not-ours-requires : tie.Need-not-ours-requires
+not-ours-requires c κs = search needs
+
+told-requires-3 : tie.Need-told-requires-3
+told-requires-3 c κs = search needs
+
+returns-3 : tie.Need-returns-3
+unfolding step refusals feederRefusals effect feederEffect
+returns-3 c = rw (c .told3 .ensures) (leads (skip (search tests) (skip (search tests) (hit (search tests)))))
+
+is-unloaded-requires : tie.Need-is-unloaded-requires
+is-unloaded-requires c κs = search needs
+
+told-requires-4 : tie.Need-told-requires-4
+told-requires-4 c κs = search needs
+
+returns-4 : tie.Need-returns-4
+unfolding step refusals feederRefusals effect feederEffect
+returns-4 c = rw (c .told4 .ensures) (leads (skip (search tests) (skip (search tests) (skip (search tests) (hit (search tests))))))
+
+told-requires-5 : tie.Need-told-requires-5
+told-requires-5 c κs = search needs
+
+returns-5 : tie.Need-returns-5
+unfolding step refusals feederRefusals effect feederEffect
+returns-5 c = rw (c .told5 .ensures) (leads (skip (search tests) (skip (search tests) (skip (search tests) (skip (search tests) accept)))))
+
+pub set-feeder-mode-spec : {M : Type 1} → statement M
+set-feeder-mode-spec =
+    tie.close
+    (tie.spec
+    sound-with-requires
+    told-requires
+    returns
+    is-simplex-requires
+    told-requires-2
+    returns-2
+    not-ours-requires
+    told-requires-3
+    returns-3
+    is-unloaded-requires
+    told-requires-4
+    returns-4
+    told-requires-5
+    returns-5)
