@@ -1,6 +1,6 @@
 -- Call after call through the exported functions is `run`.
 use mathlib.Core.Path.{_≡_, refl, sym, ap, _∙_, subst}
-use mathlib.Core.List.{List, [], _∷_}
+use mathlib.Core.List.{List, _∷_}
 use Rattle.rules.specs.Calls.{Call, State, Outcome}
 use Rattle.rules.specs.Machine.{step, Ran, run, runBy}
 use Rattle.calls.specs.Listed.{Performed, over, next}

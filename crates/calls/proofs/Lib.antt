@@ -1,2 +1,3 @@
 pub mod Through
+pub mod Settled
 pub mod Chain

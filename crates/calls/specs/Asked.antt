@@ -1,6 +1,6 @@
 -- What is asked of the box in one request, and what its answer tells.
 use Prim.Native.Nat.{ℕ}
-use mathlib.Core.List.{List, []}
+use mathlib.Core.List.{List}
 use lib.ListN.{replicate}
 use Rattle.rules.specs.Calls.{StartScan, Start, Stop, Abort, GetDestination, Fetch, GetState, GetSideInformation, Load, Eject, Reset, SetFeederMode}
 use Rattle.rules.specs.Calls.{GetFeederState, GetFeederMode, Bytes, SideEnded, Tray, Path, Tick, Call, scan, feeder, report, Outcome}
@@ -47,46 +47,50 @@ answered n reply (Answer.FeederGetState a) = fed a
 answered n reply (Answer.GetFeederMode a) = moded a
 answered n reply (Answer.Bytes a) = put a
 
--- the reply is told of a fetch
-abbrev pub shown : Request → List ℕ → List ℕ
-shown (Request.StartScan from count append time) reply = []
-shown (Request.Start job from count) reply = []
-shown (Request.Stop job) reply = []
-shown (Request.Abort job) reply = []
-shown (Request.GetDestination job) reply = []
-shown (Request.Fetch most) reply = reply
-shown Request.GetState reply = []
-shown Request.GetSideInformation reply = []
-shown (Request.Load job) reply = []
-shown (Request.Eject job value) reply = []
-shown (Request.Reset job) reply = []
-shown (Request.SetFeederMode job mode) reply = []
-shown Request.GetFeederState reply = []
-shown Request.GetFeederMode reply = []
-shown Request.Bytes reply = []
-shown Request.SideEnded reply = []
-shown (Request.Tray value) reply = []
-shown (Request.Path value) reply = []
-shown Request.Tick reply = []
+-- the kind of answer, by the values that an acceptance reports
+pub data Kind : Type 0 where
+  plain timing naming picturing stating counting feeding moding filling : Kind
+
+abbrev pub kindOf : Request → Kind
+kindOf (Request.StartScan from count append time) = timing
+kindOf (Request.Start job from count) = plain
+kindOf (Request.Stop job) = plain
+kindOf (Request.Abort job) = plain
+kindOf (Request.GetDestination job) = naming
+kindOf (Request.Fetch most) = picturing
+kindOf Request.GetState = stating
+kindOf Request.GetSideInformation = counting
+kindOf (Request.Load job) = plain
+kindOf (Request.Eject job value) = plain
+kindOf (Request.Reset job) = plain
+kindOf (Request.SetFeederMode job mode) = plain
+kindOf Request.GetFeederState = feeding
+kindOf Request.GetFeederMode = moding
+kindOf Request.Bytes = filling
+kindOf Request.SideEnded = plain
+kindOf (Request.Tray value) = plain
+kindOf (Request.Path value) = plain
+kindOf Request.Tick = plain
+
+abbrev pub kindIn : Answer → Kind
+kindIn (Answer.Call a) = plain
+kindIn (Answer.StartScan a) = timing
+kindIn (Answer.GetDestination a) = naming
+kindIn (Answer.Fetch a) = picturing
+kindIn (Answer.GetState a) = stating
+kindIn (Answer.GetSideInformation a) = counting
+kindIn (Answer.FeederGetState a) = feeding
+kindIn (Answer.GetFeederMode a) = moding
+kindIn (Answer.Bytes a) = filling
 
 -- a fetch leaves the reply as its outcome says; every other request leaves it as it was
-abbrev pub replied : Request → Outcome → List ℕ → List ℕ
-replied (Request.StartScan from count append time) o reply = reply
-replied (Request.Start job from count) o reply = reply
-replied (Request.Stop job) o reply = reply
-replied (Request.Abort job) o reply = reply
-replied (Request.GetDestination job) o reply = reply
-replied (Request.Fetch most) o reply = o .reply
-replied Request.GetState o reply = reply
-replied Request.GetSideInformation o reply = reply
-replied (Request.Load job) o reply = reply
-replied (Request.Eject job value) o reply = reply
-replied (Request.Reset job) o reply = reply
-replied (Request.SetFeederMode job mode) o reply = reply
-replied Request.GetFeederState o reply = reply
-replied Request.GetFeederMode o reply = reply
-replied Request.Bytes o reply = reply
-replied Request.SideEnded o reply = reply
-replied (Request.Tray value) o reply = reply
-replied (Request.Path value) o reply = reply
-replied Request.Tick o reply = reply
+abbrev pub replied : Kind → Outcome → List ℕ → List ℕ
+replied plain o reply = reply
+replied timing o reply = reply
+replied naming o reply = reply
+replied picturing o reply = o .reply
+replied stating o reply = reply
+replied counting o reply = reply
+replied feeding o reply = reply
+replied moding o reply = reply
+replied filling o reply = reply

@@ -20,9 +20,10 @@ use answers::Standing;
 use answers::Stored;
 use rules::Record;
 ghost use mathlib.Core.Path.{_≡_};
+ghost use Rattle.rules.specs.Calls.{lent};
 ghost use Rattle.rules.specs.Machine.{step};
 ghost use Rattle.answers.specs.Told.{stateOf, outcome, padded, nameIn};
-ghost use Rattle.calls.specs.Asked.{blank, asked, answered, shown, replied};
+ghost use Rattle.calls.specs.Asked.{blank, asked, answered, kindOf, kindIn, replied};
 
 pub enum Request {
     StartScan(u8, u32, u8, u32),
@@ -198,11 +199,13 @@ pub fn perform(
     given: &[u8],
     reply: &mut [u8],
 ) -> After
-    ensures { λ a. ⌜ outcome (answered (a .name) (now (reply .exit)) (a .answer)) (a .next) (now (ring .exit)) (shown request (now (reply .exit)))
+    ensures { λ a. ⌜ outcome (answered (a .name) (now (reply .exit)) (a .answer)) (a .next) (now (ring .exit))
+        (lent (asked request (now (given .entry)) (now (reply .exit))))
         ≡ step (stateOf r (now (ring .entry))) (asked request (now (given .entry)) (now (reply .entry))) ⌝ }
     ensures { λ a. ⌜ now (reply .exit)
-        ≡ replied request (step (stateOf r (now (ring .entry))) (asked request (now (given .entry)) (now (reply .entry)))) (now (reply .entry)) ⌝ }
+        ≡ replied (kindOf request) (step (stateOf r (now (ring .entry))) (asked request (now (given .entry)) (now (reply .entry)))) (now (reply .entry)) ⌝ }
     ensures { λ a. ⌜ a .name ≡ padded (nameIn (step (stateOf r (now (ring .entry))) (asked request (now (given .entry)) (now (reply .entry))) .values)) ⌝ }
+    ensures { λ a. ⌜ kindIn (a .answer) ≡ kindOf request ⌝ }
 {
     match request {
         Request::StartScan(from, count, append, time) => after_start_scan(scan::begin::start_scan(

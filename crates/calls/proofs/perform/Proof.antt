@@ -1,4 +1,3 @@
--- `calls::perform`: in each arm the call's own contract, under its case of the answer; where no name is told, the name is blank.
 use mathlib.Core.Path.{refl, ap}
 use borrow.Author.Needs.{needs}
 use Rattle.calls.proofs.Through.{nameless, done-nameless, granted-nameless, fetched-nameless, standing-nameless, sided-nameless, fed-nameless}
@@ -6,6 +5,8 @@ use Rattle.calls.proofs.Through.{moded-nameless, put-nameless}
 use Rattle.rules.specs.Calls.{Outcome}
 use Rattle.calls.proofs.perform.Statement.{statement}
 use Rattle.calls.proofs.perform.Tie as tie
+
+-- `calls::perform`: in each arm the call's own contract, under its case of the answer; where no name is told, the name is blank.
 
 enum-known-request : tie.Need-enum-known-request
 enum-known-request c = search needs
@@ -185,7 +186,7 @@ returns : tie.Need-returns
 returns c =
     let at = c .before .start-scan in
     let e = at .ensures in
-    rw (c .after-start-scan .ensures, c .before .before .before .before .request .given .1) (e, (refl, nameless e (granted-nameless (at .result .answer))))
+    rw (c .after-start-scan .ensures, c .before .before .before .before .request .given .1) (e, (refl, (nameless e (granted-nameless (at .result .answer)), refl)))
 
 same-length-2 : tie.Need-same-length-2
 same-length-2 c = search needs
@@ -194,7 +195,7 @@ returns-2 : tie.Need-returns-2
 returns-2 c =
     let at = c .before .start in
     let e = at .ensures in
-    rw (c .after-call .ensures, c .before .before .before .before .request2 .given .1) (e, (refl, nameless e (done-nameless (at .result .answer))))
+    rw (c .after-call .ensures, c .before .before .before .before .request2 .given .1) (e, (refl, (nameless e (done-nameless (at .result .answer)), refl)))
 
 same-length-3 : tie.Need-same-length-3
 same-length-3 c = search needs
@@ -203,7 +204,7 @@ returns-3 : tie.Need-returns-3
 returns-3 c =
     let at = c .before .stop in
     let e = at .ensures in
-    rw (c .after-call2 .ensures, c .before .before .before .before .request3 .given .1) (e, (refl, nameless e (done-nameless (at .result .answer))))
+    rw (c .after-call2 .ensures, c .before .before .before .before .request3 .given .1) (e, (refl, (nameless e (done-nameless (at .result .answer)), refl)))
 
 same-length-4 : tie.Need-same-length-4
 same-length-4 c = search needs
@@ -212,7 +213,7 @@ returns-4 : tie.Need-returns-4
 returns-4 c =
     let at = c .before .abort in
     let e = at .ensures in
-    rw (c .after-call3 .ensures, c .before .before .before .before .request4 .given .1) (e, (refl, nameless e (done-nameless (at .result .answer))))
+    rw (c .after-call3 .ensures, c .before .before .before .before .request4 .given .1) (e, (refl, (nameless e (done-nameless (at .result .answer)), refl)))
 
 same-length-5 : tie.Need-same-length-5
 same-length-5 c = search needs
@@ -220,7 +221,7 @@ same-length-5 c = search needs
 returns-5 : tie.Need-returns-5
 returns-5 c =
     let e = c .before .get-destination .ensures in
-    rw (c .after-get-destination .ensures, c .before .before .before .before .request5 .given .1) (e .0, (refl, e .1))
+    rw (c .after-get-destination .ensures, c .before .before .before .before .request5 .given .1) (e .0, (refl, (e .1, refl)))
 
 same-length-6 : tie.Need-same-length-6
 same-length-6 c = search needs
@@ -233,7 +234,7 @@ returns-6 c =
     let at = c .before .before .before .fetch in
     let e = at .ensures in
     rw (c .after-fetch .ensures, c .before .before .before .before .before .before .before .request6 .given .1)
-    (e, (ap (λ (o : Outcome). o .reply) e, nameless e (fetched-nameless (at .last .1 .1 .1 .1 .0) (at .result .answer))))
+    (e, (ap (λ (o : Outcome). o .reply) e, (nameless e (fetched-nameless (at .last .1 .1 .1 .1 .0) (at .result .answer)), refl)))
 
 same-length-8 : tie.Need-same-length-8
 same-length-8 c = search needs
@@ -242,7 +243,7 @@ returns-7 : tie.Need-returns-7
 returns-7 c =
     let at = c .before .get-state in
     let e = at .ensures in
-    rw (c .after-get-state .ensures, c .before .before .before .enum-told .given .1) (e, (refl, nameless e (standing-nameless (at .result .answer))))
+    rw (c .after-get-state .ensures, c .before .before .before .enum-told .given .1) (e, (refl, (nameless e (standing-nameless (at .result .answer)), refl)))
 
 same-length-9 : tie.Need-same-length-9
 same-length-9 c = search needs
@@ -251,7 +252,7 @@ returns-8 : tie.Need-returns-8
 returns-8 c =
     let at = c .before .get-side-information in
     let e = at .ensures in
-    rw (c .after-get-side-information .ensures, c .before .before .before .enum-told2 .given .1) (e, (refl, nameless e (sided-nameless (at .result .answer))))
+    rw (c .after-get-side-information .ensures, c .before .before .before .enum-told2 .given .1) (e, (refl, (nameless e (sided-nameless (at .result .answer)), refl)))
 
 same-length-10 : tie.Need-same-length-10
 same-length-10 c = search needs
@@ -260,7 +261,7 @@ returns-9 : tie.Need-returns-9
 returns-9 c =
     let at = c .before .load in
     let e = at .ensures in
-    rw (c .after-call4 .ensures, c .before .before .before .before .request7 .given .1) (e, (refl, nameless e (done-nameless (at .result .answer))))
+    rw (c .after-call4 .ensures, c .before .before .before .before .request7 .given .1) (e, (refl, (nameless e (done-nameless (at .result .answer)), refl)))
 
 same-length-11 : tie.Need-same-length-11
 same-length-11 c = search needs
@@ -269,7 +270,7 @@ returns-10 : tie.Need-returns-10
 returns-10 c =
     let at = c .before .eject in
     let e = at .ensures in
-    rw (c .after-call5 .ensures, c .before .before .before .before .request8 .given .1) (e, (refl, nameless e (done-nameless (at .result .answer))))
+    rw (c .after-call5 .ensures, c .before .before .before .before .request8 .given .1) (e, (refl, (nameless e (done-nameless (at .result .answer)), refl)))
 
 same-length-12 : tie.Need-same-length-12
 same-length-12 c = search needs
@@ -278,7 +279,7 @@ returns-11 : tie.Need-returns-11
 returns-11 c =
     let at = c .before .reset in
     let e = at .ensures in
-    rw (c .after-call6 .ensures, c .before .before .before .before .request9 .given .1) (e, (refl, nameless e (done-nameless (at .result .answer))))
+    rw (c .after-call6 .ensures, c .before .before .before .before .request9 .given .1) (e, (refl, (nameless e (done-nameless (at .result .answer)), refl)))
 
 same-length-13 : tie.Need-same-length-13
 same-length-13 c = search needs
@@ -287,7 +288,7 @@ returns-12 : tie.Need-returns-12
 returns-12 c =
     let at = c .before .set-feeder-mode in
     let e = at .ensures in
-    rw (c .after-call7 .ensures, c .before .before .before .before .request10 .given .1) (e, (refl, nameless e (done-nameless (at .result .answer))))
+    rw (c .after-call7 .ensures, c .before .before .before .before .request10 .given .1) (e, (refl, (nameless e (done-nameless (at .result .answer)), refl)))
 
 same-length-14 : tie.Need-same-length-14
 same-length-14 c = search needs
@@ -296,7 +297,7 @@ returns-13 : tie.Need-returns-13
 returns-13 c =
     let at = c .before .get-state2 in
     let e = at .ensures in
-    rw (c .after-feeder-get-state .ensures, c .before .before .before .enum-told3 .given .1) (e, (refl, nameless e (fed-nameless (at .result .answer))))
+    rw (c .after-feeder-get-state .ensures, c .before .before .before .enum-told3 .given .1) (e, (refl, (nameless e (fed-nameless (at .result .answer)), refl)))
 
 same-length-15 : tie.Need-same-length-15
 same-length-15 c = search needs
@@ -305,7 +306,7 @@ returns-14 : tie.Need-returns-14
 returns-14 c =
     let at = c .before .get-feeder-mode in
     let e = at .ensures in
-    rw (c .after-get-feeder-mode .ensures, c .before .before .before .enum-told4 .given .1) (e, (refl, nameless e (moded-nameless (at .result .answer))))
+    rw (c .after-get-feeder-mode .ensures, c .before .before .before .enum-told4 .given .1) (e, (refl, (nameless e (moded-nameless (at .result .answer)), refl)))
 
 same-length-16 : tie.Need-same-length-16
 same-length-16 c = search needs
@@ -314,7 +315,7 @@ returns-15 : tie.Need-returns-15
 returns-15 c =
     let at = c .before .before .before .bytes in
     let e = at .ensures in
-    rw (c .after-bytes .ensures, c .before .before .before .before .before .enum-told5 .given .1) (e, (refl, nameless e (put-nameless (at .result .answer))))
+    rw (c .after-bytes .ensures, c .before .before .before .before .before .enum-told5 .given .1) (e, (refl, (nameless e (put-nameless (at .result .answer)), refl)))
 
 same-length-17 : tie.Need-same-length-17
 same-length-17 c = search needs
@@ -323,7 +324,7 @@ returns-16 : tie.Need-returns-16
 returns-16 c =
     let at = c .before .side-ended in
     let e = at .ensures in
-    rw (c .after-call8 .ensures, c .before .before .before .enum-told6 .given .1) (e, (refl, nameless e (done-nameless (at .result .answer))))
+    rw (c .after-call8 .ensures, c .before .before .before .enum-told6 .given .1) (e, (refl, (nameless e (done-nameless (at .result .answer)), refl)))
 
 same-length-18 : tie.Need-same-length-18
 same-length-18 c = search needs
@@ -332,7 +333,7 @@ returns-17 : tie.Need-returns-17
 returns-17 c =
     let at = c .before .tray in
     let e = at .ensures in
-    rw (c .after-call9 .ensures, c .before .before .before .before .request11 .given .1) (e, (refl, nameless e (done-nameless (at .result .answer))))
+    rw (c .after-call9 .ensures, c .before .before .before .before .request11 .given .1) (e, (refl, (nameless e (done-nameless (at .result .answer)), refl)))
 
 same-length-19 : tie.Need-same-length-19
 same-length-19 c = search needs
@@ -341,7 +342,7 @@ returns-18 : tie.Need-returns-18
 returns-18 c =
     let at = c .before .path in
     let e = at .ensures in
-    rw (c .after-call10 .ensures, c .before .before .before .before .request12 .given .1) (e, (refl, nameless e (done-nameless (at .result .answer))))
+    rw (c .after-call10 .ensures, c .before .before .before .before .request12 .given .1) (e, (refl, (nameless e (done-nameless (at .result .answer)), refl)))
 
 same-length-20 : tie.Need-same-length-20
 same-length-20 c = search needs
@@ -350,7 +351,7 @@ returns-19 : tie.Need-returns-19
 returns-19 c =
     let at = c .before .tick in
     let e = at .ensures in
-    rw (c .after-call11 .ensures, c .before .before .before .enum-told7 .given .1) (e, (refl, nameless e (done-nameless (at .result .answer))))
+    rw (c .after-call11 .ensures, c .before .before .before .enum-told7 .given .1) (e, (refl, (nameless e (done-nameless (at .result .answer)), refl)))
 
 pub perform-spec : {M : Type 1} → statement M
 perform-spec =
