@@ -1,0 +1,4 @@
+pub mod Kinds
+pub mod Places
+pub mod Reading
+pub mod Writing

@@ -1,0 +1,86 @@
+-- What is heard at the front of some bytes: it is what the front says, and stays when more bytes follow.
+use Prim.Native.Nat.{ℕ, _+_, _≤_, _<_}
+use mathlib.Core.Path.{_≡_, refl, sym, ap, _∙_}
+use mathlib.Core.Bool.{false}
+use mathlib.Core.List.{List, _++_}
+use native.Mathlib.Omega.{arith}
+use lib.ListN.{length, take, drop, length-drop}
+use lib.Seq.{drop-append-le, take-append-le}
+use Rattle.calls.specs.declared.Request.{Request}
+use Rattle.records.specs.declared.Front.{Front}
+use Rattle.records.specs.declared.Reading.{Reading}
+use Rattle.records.specs.Reading.{secondMark, lengthWidth, headOf, front, placed, readWith, readAt, cut, partOf}
+use Rattle.records.proofs.Stable.{front-stable}
+use Rattle.records.proofs.Admits.{front-inside, whole-at, read-places}
+use Rattle.requests.specs.declared.Asking.{Asking}
+use Rattle.requests.specs.Requested.{askingOf, givenOf}
+use Rattle.stream.specs.Desk.{asks, wrong, heardAs, heardIn, payloadOf, heard}
+
+abbrev pub fronted : List ℕ → Front
+fronted s = front secondMark lengthWidth s
+
+pub heard-front : (s : List ℕ) (f : Front) → fronted s ≡ f → heard s ≡ heardIn s f
+unfolding heard
+heard-front s f e = ap (heardIn s) e
+
+same-payload : (s t : List ℕ) (n : ℕ) → headOf lengthWidth + n ≤ length s → payloadOf (s ++ t) n ≡ payloadOf s n
+same-payload s t n h =
+    ap (take n) (drop-append-le (headOf lengthWidth) s t (omega arith))
+    ∙ take-append-le n (drop (headOf lengthWidth) s) t (omega (arith, length-drop (headOf lengthWidth) s))
+
+stays : (s t : List ℕ) (f : Front) → fronted s ≡ f → fronted (s ++ t) ≡ f → heard (s ++ t) ≡ heard s
+stays s t (Front.Whole k n) e g =
+    heard-front (s ++ t) (Front.Whole k n) g
+    ∙ ap (λ (p : List ℕ). heardAs k p (headOf lengthWidth + n) (askingOf k p)) (same-payload s t n (front-inside secondMark lengthWidth s e))
+    ∙ sym (heard-front s (Front.Whole k n) e)
+stays s t (Front.Wrong fault i) e g = heard-front (s ++ t) (Front.Wrong fault i) g ∙ sym (heard-front s (Front.Wrong fault i) e)
+
+pub heard-stable : (s t : List ℕ) → cut (fronted s) ≡ false → heard (s ++ t) ≡ heard s
+heard-stable s t c = stays s t (fronted s) refl (front-stable secondMark lengthWidth s t c)
+
+-- a record that asks is whole, and has its head at least
+pub record Whole (s : List ℕ) (size : ℕ) : Type 0 where
+  pub uncut : cut (fronted s) ≡ false
+  pub some : 0 < size
+  pub inside : size ≤ length s
+
+asks-whole : (s : List ℕ) (f : Front) {k : ℕ} {q : Request} {given : List ℕ} {size : ℕ} → fronted s ≡ f → heardIn s f ≡ asks k q given size
+    → Whole s size
+asks-whole s (Front.Whole k n) e h = go (askingOf k (payloadOf s n)) h
+  where
+    go : (a : Asking) {j : ℕ} {q : Request} {given : List ℕ} {size : ℕ}
+        → heardAs k (payloadOf s n) (headOf lengthWidth + n) a ≡ asks j q given size → Whole s size
+    go (Asking.Asks r) {j} {q} {given} {size} h =
+        let long : headOf lengthWidth + n ≡ size = cc in
+        record { uncut = ap cut e; some = omega arith; inside = omega (arith, front-inside secondMark lengthWidth s e) }
+    go Asking.Unlisted h = let z : _≡_ {A = ℕ} 0 1 = cc in absurd (omega arith)
+asks-whole s (Front.Wrong fault i) e h = let z : _≡_ {A = ℕ} 0 1 = cc in absurd (omega arith)
+
+pub heard-whole : (s : List ℕ) {k : ℕ} {q : Request} {given : List ℕ} {size : ℕ} → heard s ≡ asks k q given size → Whole s size
+heard-whole s h = asks-whole s (fronted s) refl (sym (heard-front s (fronted s) refl) ∙ h)
+
+-- ---- by what reading at a place answered
+module _ (s : List ℕ) (at : ℕ) where
+  module _ (k start n next : ℕ) (e : readAt s at ≡ Reading.Record k start n next) (body : List ℕ) (b : body ≡ partOf s start n)
+      (ask : Asking) (a : ask ≡ askingOf k body) where
+    as-asked : heard (drop at s) ≡ heardAs k body (headOf lengthWidth + n) ask
+    as-asked =
+        let same : payloadOf (drop at s) n ≡ body = sym (b ∙ read-places s at e .4) in
+        heard-front (drop at s) (Front.Whole k n) (whole-at secondMark lengthWidth s at e)
+        ∙ ap (λ (p : List ℕ). heardAs k p (headOf lengthWidth + n) (askingOf k p)) same
+        ∙ ap (heardAs k body (headOf lengthWidth + n)) (sym a)
+
+    pub heard-asking : {q : Request} → ask ≡ Asking.Asks q → heard (drop at s) ≡ asks k q (givenOf k body) (headOf lengthWidth + n)
+    heard-asking f = as-asked ∙ ap (heardAs k body (headOf lengthWidth + n)) f
+
+    pub heard-unlisted : ask ≡ Asking.Unlisted → heard (drop at s) ≡ wrong
+    heard-unlisted f = as-asked ∙ ap (heardAs k body (headOf lengthWidth + n)) f
+
+  unread : (f : Front) {place : ℕ} → fronted (drop at s) ≡ f → placed lengthWidth at f ≡ Reading.Bad place → heard (drop at s) ≡ wrong
+  unfolding placed
+  unread (Front.Whole k n) e h = let z : _≡_ {A = ℕ} 0 1 = cc in absurd (omega arith)
+  unread (Front.Wrong fault i) e h = heard-front (drop at s) (Front.Wrong fault i) e
+
+  pub heard-bad : {place : ℕ} → readAt s at ≡ Reading.Bad place → heard (drop at s) ≡ wrong
+  unfolding readWith
+  heard-bad h = unread (fronted (drop at s)) refl h

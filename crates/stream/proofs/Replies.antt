@@ -1,0 +1,98 @@
+-- What a lent reply held before matters to no answer.
+use Prim.Native.Nat.{ℕ, _≤_, zero-le}
+use native.Mathlib.Nat.{le-of-eq}
+use mathlib.Core.Path.{_≡_, refl, sym, ap, _∙_}
+use mathlib.Core.Bool.{true, false}
+use mathlib.Core.List.{List, [], _∷_}
+use lib.ListN.{length, replicate, length-replicate}
+use Rattle.rules.specs.Calls.{Values, State, Outcome, Line, refuse, leaving, Call}
+use Rattle.rules.specs.Calls.{answer, scan, Fetch, lent}
+use Rattle.rules.specs.Machine.{step, refusals, scanRefusals, effect, scanEffect}
+use Rattle.rules.specs.declared.Record.{Record}
+use Rattle.answers.specs.declared.Name.{Name}
+use Rattle.answers.specs.Told.{stateOf, outcome}
+use Rattle.text.specs.Put.{Puts}
+use Rattle.text.proofs.Putting.{moved}
+use Rattle.line.specs.Line.{lineOf, lineFor}
+use Rattle.calls.specs.declared.Answer.{Answer}
+use Rattle.calls.specs.declared.Request.{Request}
+use Rattle.calls.specs.Asked.{asked, answered}
+use Rattle.stream.specs.Desk.{replyRoom, callWith, callOf}
+
+-- an outcome but for the reply
+pub record Bare : Type 0 where
+  pub number : ℕ
+  pub values : Values
+  pub state : State
+
+abbrev pub bare : Outcome → Bare
+bare o = record { number = o .number; values = o .values; state = o .state }
+
+bare-answer : (ls : List Line) (s : State) (c d : Call) (o p : Outcome) → bare o ≡ bare p → bare (answer ls s c o) ≡ bare (answer ls s d p)
+unfolding answer
+bare-answer [] s c d o p e = e
+bare-answer (refuse n true ∷ ls) s c d o p e = refl
+bare-answer (refuse n false ∷ ls) s c d o p e = bare-answer ls s c d o p e
+bare-answer (leaving n true r ∷ ls) s c d o p e = refl
+bare-answer (leaving n false r ∷ ls) s c d o p e = bare-answer ls s c d o p e
+
+fetch-alike : (s : State) (called : List ℕ) (most : ℕ) (r q : List ℕ) → length r ≡ length q
+    → bare (step s (scan (Fetch called most r))) ≡ bare (step s (scan (Fetch called most q)))
+unfolding step refusals scanRefusals effect scanEffect
+fetch-alike s called most r q e = rw e (bare-answer _ _ _ _ _ _ refl)
+
+pub reply-alike : (s : State) (a : Request) (given r q : List ℕ) → length r ≡ length q → bare (step s (asked a given r)) ≡ bare (step s (asked a given q))
+reply-alike s (Request.StartScan from count append time) given r q e = refl
+reply-alike s (Request.Start job from count) given r q e = refl
+reply-alike s (Request.Stop job) given r q e = refl
+reply-alike s (Request.Abort job) given r q e = refl
+reply-alike s (Request.GetDestination job) given r q e = refl
+reply-alike s (Request.Fetch most) given r q e = fetch-alike s given most r q e
+reply-alike s Request.GetState given r q e = refl
+reply-alike s Request.GetSideInformation given r q e = refl
+reply-alike s (Request.Load job) given r q e = refl
+reply-alike s (Request.Eject job value) given r q e = refl
+reply-alike s (Request.Reset job) given r q e = refl
+reply-alike s (Request.SetFeederMode job mode) given r q e = refl
+reply-alike s Request.GetFeederState given r q e = refl
+reply-alike s Request.GetFeederMode given r q e = refl
+reply-alike s Request.Bytes given r q e = refl
+reply-alike s Request.SideEnded given r q e = refl
+reply-alike s (Request.Tray value) given r q e = refl
+reply-alike s (Request.Path value) given r q e = refl
+reply-alike s Request.Tick given r q e = refl
+
+-- ---- an answer in the program's hands
+module _ (s : State) (a : Request) (given reply : List ℕ) (n : Name) (after ring left : List ℕ) (x : Answer) (next : Record)
+    (e : outcome (answered n after x) next ring left ≡ step s (asked a given reply)) where
+  told : bare (outcome (answered n after x) next ring left) ≡ bare (step s (callWith (length reply) a given))
+  told = ap bare e ∙ reply-alike s a given reply (replicate (length reply) 0) (sym (length-replicate (length reply) 0))
+
+  pub answered-state : stateOf next ring ≡ step s (callWith (length reply) a given) .state
+  answered-state = ap (λ (b : Bare). b .state) told
+
+  pub answered-line : (kind : ℕ) {at filled : ℕ} {o o₁ : List ℕ} → Puts o at (lineOf kind (answered n after x) next) filled o₁
+      → Puts o at (lineFor kind (step s (callWith (length reply) a given))) filled o₁
+  answered-line kind p = moved p (ap (λ (b : Bare). lineOf kind (record { number = b .number; values = b .values }) (b .state .box)) told)
+
+-- no call is lent more than the reply's room
+pub lent-room : (a : Request) (given : List ℕ) → length (lent (callOf a given)) ≤ replyRoom
+lent-room (Request.StartScan from count append time) given = zero-le
+lent-room (Request.Start job from count) given = zero-le
+lent-room (Request.Stop job) given = zero-le
+lent-room (Request.Abort job) given = zero-le
+lent-room (Request.GetDestination job) given = zero-le
+lent-room (Request.Fetch most) given = le-of-eq (length-replicate {A = ℕ} replyRoom 0)
+lent-room Request.GetState given = zero-le
+lent-room Request.GetSideInformation given = zero-le
+lent-room (Request.Load job) given = zero-le
+lent-room (Request.Eject job value) given = zero-le
+lent-room (Request.Reset job) given = zero-le
+lent-room (Request.SetFeederMode job mode) given = zero-le
+lent-room Request.GetFeederState given = zero-le
+lent-room Request.GetFeederMode given = zero-le
+lent-room Request.Bytes given = zero-le
+lent-room Request.SideEnded given = zero-le
+lent-room (Request.Tray value) given = zero-le
+lent-room (Request.Path value) given = zero-le
+lent-room Request.Tick given = zero-le
