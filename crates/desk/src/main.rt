@@ -150,6 +150,6 @@ fn pump(buf: &mut [u8], ring: &mut [u8], out: &mut [u8]) {
 fn main() {
     let mut buf = io::large_buffer();
     let mut out = io::large_buffer();
-    let mut ring = io::buffer();
+    let mut ring = [0u8; 4096];
     pump(&mut buf, &mut ring, &mut out);
 }

@@ -21,10 +21,7 @@ use Rattle.rules.proofs.RingLaws.{length-queue}
 use Rattle.answers.specs.Told.{Told, nameRoom}
 use Rattle.text.specs.Digits.{decimal, mostDigits, hexByte}
 use Rattle.text.proofs.Putting.{length-digits, length-hexes}
-use Rattle.line.specs.Line.{scanLetter, feedLetter, countText, failureText, lastText, extraOf, lineOf, lineFor}
-
-abbrev pub lineRoom : ℕ
-lineRoom = 640
+use Rattle.line.specs.Line.{scanLetter, feedLetter, countText, failureText, lastText, extraOf, lineOf, lineFor, lineRoom}
 
 -- values that a box with a reply of 259 bytes reports
 abbrev pub short : Values → Type 0

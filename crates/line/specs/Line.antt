@@ -85,3 +85,7 @@ lineOf kind t r = joined (columns kind t r)
 -- an outcome's line
 abbrev pub lineFor : ℕ → Outcome → List ℕ
 lineFor kind o = lineOf kind (record { number = o .number; values = o .values }) (o .state .box)
+
+-- no line is longer (`step-bound`)
+abbrev pub lineRoom : ℕ
+lineRoom = 640

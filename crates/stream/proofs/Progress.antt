@@ -15,8 +15,9 @@ use Rattle.records.specs.declared.Front.{Front}
 use Rattle.records.specs.Kinds.{limitsOf, listed, within}
 use Rattle.records.specs.Reading.{firstMark, secondMark, lengthWidth, lengthAt, headOf, lengthIn, expect, sized, front, cut}
 use Rattle.records.proofs.Rows.{listed-short}
+use Rattle.line.specs.Line.{lineRoom}
 use Rattle.stream.specs.Desk.{Heard, asks, wrong, heard, callOf}
-use Rattle.stream.specs.Window.{Progress, begun, lineRoom, answered, broken, waits, roomy, served}
+use Rattle.stream.specs.Window.{Progress, begun, answered, broken, waits, roomy, served}
 use Rattle.stream.proofs.Turns.{turns, no-room, another, none}
 use Rattle.stream.proofs.Hearing.{fronted, heard-whole}
 

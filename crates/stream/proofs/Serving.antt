@@ -22,10 +22,10 @@ use Rattle.records.specs.Reading.{headOf, lengthWidth, readAt, cutAt, partOf}
 use Rattle.records.proofs.Admits.{read-places}
 use Rattle.requests.specs.declared.Asking.{Asking}
 use Rattle.requests.specs.Requested.{askingOf, givenOf}
-use Rattle.line.specs.Line.{lineFor}
+use Rattle.line.specs.Line.{lineFor, lineRoom}
 use Rattle.line.proofs.Bound.{step-bound}
 use Rattle.stream.specs.Desk.{asks, wrong, heard, replyRoom, callWith, callOf, badLine, badText}
-use Rattle.stream.specs.Window.{Progress, begun, lineRoom, broken, served, Holds}
+use Rattle.stream.specs.Window.{Progress, begun, broken, served, Holds}
 use Rattle.stream.proofs.Turns.{at-end, no-room, another, none}
 use Rattle.stream.proofs.Hearing.{heard-asking}
 use Rattle.stream.proofs.Replies.{lent-room}

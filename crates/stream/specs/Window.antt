@@ -11,7 +11,7 @@ use Rattle.rules.specs.Machine.{step}
 use Rattle.answers.specs.Told.{stateOf}
 use Rattle.text.specs.Put.{over}
 use Rattle.records.specs.Reading.{secondMark, lengthWidth, front, cut}
-use Rattle.line.specs.Line.{lineFor}
+use Rattle.line.specs.Line.{lineFor, lineRoom}
 use Rattle.stream.specs.Desk.{Heard, asks, wrong, heard, callOf, badText}
 
 -- how far the desk has come: its box, its place in the window, the text, and whether it met a bad record
@@ -23,10 +23,6 @@ pub record Progress : Type 0 where
 
 abbrev pub begun : State → Progress
 begun box = record { box = box; place = 0; text = []; ended = false }
-
--- no line is longer
-abbrev pub lineRoom : ℕ
-lineRoom = 640
 
 -- a record answered
 abbrev pub answered : ℕ → Outcome → ℕ → Progress → Progress

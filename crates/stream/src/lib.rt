@@ -13,9 +13,12 @@ ghost use Rattle.rules.specs.Machine.{step};
 ghost use Rattle.answers.specs.Told.{stateOf};
 ghost use Rattle.text.specs.Put.{Puts};
 ghost use Rattle.records.specs.Reading.{cutAt};
-ghost use Rattle.line.specs.Line.{lineFor};
+ghost use Rattle.line.specs.Line.{lineFor, lineRoom};
 ghost use Rattle.stream.specs.Desk.{replyRoom, callWith, badLine, badText};
-ghost use Rattle.stream.specs.Window.{begun, lineRoom, served, Holds, unread};
+ghost use Rattle.stream.specs.Window.{begun, served, Holds, unread};
+
+// No line is longer.
+const LINE_ROOM: usize = 640;
 
 // What a window gave: the record, how far it was read, how much text stands in the buffer, and whether a record was bad.
 pub struct Served {
@@ -99,10 +102,10 @@ fn stop(
 pub fn has_room(filled: usize, room: usize) -> bool
     ensures { λ b. ⌜ b ≡ leb (filled + lineRoom) room ⌝ }
 {
-    if room < 640 {
+    if room < LINE_ROOM {
         return false;
     }
-    filled <= room - 640
+    filled <= room - LINE_ROOM
 }
 
 fn serve_with(
