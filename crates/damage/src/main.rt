@@ -164,7 +164,9 @@ fn is_answered(s: &[u8], right: &[u8], same: usize, w: Reach) -> bool {
     let mut out = io::large_buffer();
     let next = Record::fresh();
     let served = stream::serve(next, &mut ring, s, 0, true, &mut out);
-    (served.at == w.at) & (served.ended == w.bad) & is_right(part(&out, 0, served.filled), right, same, w)
+    (served.at == w.at)
+        & (served.ended == w.bad)
+        & is_right(part(&out, 0, served.filled), right, same, w)
 }
 
 fn add(n: u64, holds: bool) -> u64 {

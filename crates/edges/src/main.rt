@@ -178,9 +178,7 @@ fn made(scan: Scan, held: u32, last: u32, number: u16, destination: u32) -> Reco
         job: Job {
             held,
             last,
-            granted: Granted {
-                seconds: 60,
-            },
+            granted: Granted { seconds: 60 },
             quiet: 0,
             stop: 0,
         },

@@ -69,9 +69,23 @@ fn grown(come: usize, step: usize, len: usize) -> usize {
 }
 
 // Answers what has come, as far as the lines have room; where they have, more comes, or the end.
-fn turn(input: &[u8], step: usize, ring: &mut [u8], out: &mut [u8], said: &mut [u8], f: Run) -> Run {
+fn turn(
+    input: &[u8],
+    step: usize,
+    ring: &mut [u8],
+    out: &mut [u8],
+    said: &mut [u8],
+    f: Run,
+) -> Run {
     let next = f.next;
-    let served = stream::serve(next, ring, part(input, f.at, f.come), f.at as u64, f.last, out);
+    let served = stream::serve(
+        next,
+        ring,
+        part(input, f.at, f.come),
+        f.at as u64,
+        f.last,
+        out,
+    );
     let next = served.next;
     let at = std::num::wrapping_add_usize(f.at, served.at);
     let end = text::put_bytes(said, f.said, part(out, 0, served.filled));
@@ -79,7 +93,11 @@ fn turn(input: &[u8], step: usize, ring: &mut [u8], out: &mut [u8], said: &mut [
     Run {
         next,
         at,
-        come: if is_dry { grown(f.come, step, input.len()) } else { f.come },
+        come: if is_dry {
+            grown(f.come, step, input.len())
+        } else {
+            f.come
+        },
         last: f.last | is_dry & (f.come == input.len()),
         said: end,
         over: served.ended | f.last & is_dry,
