@@ -1,7 +1,7 @@
 -- What is heard at the front of some bytes: it is what the front says, and stays when more bytes follow.
 use Prim.Native.Nat.{ℕ, _+_, _≤_, _<_}
 use mathlib.Core.Path.{_≡_, refl, sym, ap, _∙_}
-use mathlib.Core.Bool.{false}
+use mathlib.Core.Bool.{true, false}
 use mathlib.Core.List.{List, _++_}
 use native.Mathlib.Omega.{arith}
 use lib.ListN.{length, take, drop, length-drop}
@@ -11,9 +11,10 @@ use Rattle.records.specs.declared.Front.{Front}
 use Rattle.records.specs.declared.Reading.{Reading}
 use Rattle.records.specs.Reading.{secondMark, lengthWidth, headOf, front, placed, readWith, readAt, cut, partOf}
 use Rattle.records.proofs.Stable.{front-stable}
-use Rattle.records.proofs.Admits.{front-inside, whole-at, read-places}
+use Rattle.records.proofs.Admits.{front-inside, front-listed, whole-at, read-places}
 use Rattle.requests.specs.declared.Asking.{Asking}
 use Rattle.requests.specs.Requested.{askingOf, givenOf}
+use Rattle.requests.proofs.Admits.{isCall, admitted}
 use Rattle.stream.specs.Desk.{asks, wrong, heardAs, heardIn, payloadOf, heard}
 
 abbrev pub fronted : List ℕ → Front
@@ -58,6 +59,10 @@ asks-whole s (Front.Wrong fault i) e h = let z : _≡_ {A = ℕ} 0 1 = cc in abs
 
 pub heard-whole : (s : List ℕ) {k : ℕ} {q : Request} {given : List ℕ} {size : ℕ} → heard s ≡ asks k q given size → Whole s size
 heard-whole s h = asks-whole s (fronted s) refl (sym (heard-front s (fronted s) refl) ∙ h)
+
+-- every record that reads asks something: the desk hears `wrong` only where none reads
+pub every-record-asks : (s : List ℕ) {k n : ℕ} → fronted s ≡ Front.Whole k n → isCall (askingOf k (payloadOf s n)) ≡ true
+every-record-asks s {k} {n} e = admitted k n (payloadOf s n) (front-listed secondMark lengthWidth s e)
 
 -- ---- by what reading at a place answered
 module _ (s : List ℕ) (at : ℕ) where
