@@ -17,13 +17,19 @@ struct Reach {
     bad: bool,
 }
 
+// The place behind some lines, and how many were wanted that are not there.
+struct Passed {
+    at: usize,
+    left: usize,
+}
+
 // Prefixes by outcome, and changed bytes by outcome.
 struct Tally {
     right: u64,
     wrong: u64,
     answered: u64,
     bad: u64,
-    off: u64,
+    mistaken: u64,
 }
 
 // The bytes from `at` to `end`, or none where there are no such.
@@ -128,24 +134,24 @@ fn walk(s: &[u8]) -> Reach {
     w
 }
 
-// The place behind the first `n` lines, or of a bad line before that: no other has a `b`.
-fn lines(s: &[u8], n: usize) -> usize {
+// Passes `n` lines of answers, as far as there are such: a bad line, the only one with a `b`, is none.
+fn lines(s: &[u8], n: usize) -> Passed {
     let mut left = n;
-    let mut i: usize = 0;
-    while i < s.len() && left > 0 {
-        if s[i] == b'b' {
-            return i;
+    let mut at: usize = 0;
+    while at < s.len() && left > 0 {
+        if s[at] == b'b' {
+            return Passed { at, left };
         }
-        if s[i] == b'\n' {
+        if s[at] == b'\n' {
             left -= 1;
         }
-        i += 1;
+        at += 1;
     }
-    i
+    Passed { at, left }
 }
 
-// Whether a text is that many lines of answers, the first of them as in the right text, and behind them nothing but the bad line
-// that the walk tells.
+// Whether a text is a line for each whole record, the first of them as in the right text, and behind them nothing but the bad
+// line that the walk tells.
 fn is_right(said: &[u8], right: &[u8], same: usize, w: Reach) -> bool {
     let mut line = [0u8; 32];
     let a = text::put_bytes(&mut line, 0, b"bad ");
@@ -153,9 +159,10 @@ fn is_right(said: &[u8], right: &[u8], same: usize, w: Reach) -> bool {
     let c = text::put_byte(&mut line, b, b'\n');
     let end = if w.bad { c } else { 0 };
     let first = lines(right, same);
-    let behind = lines(said, w.records);
-    check::same(part(said, 0, first), part(right, 0, first))
-        & check::same(part(said, behind, said.len()), part(&line, 0, end))
+    let all = lines(said, w.records);
+    let is_same = check::same(part(said, 0, first.at), part(right, 0, first.at));
+    let is_ended = check::same(part(said, all.at, said.len()), part(&line, 0, end));
+    (first.left == 0) & (all.left == 0) & is_same & is_ended
 }
 
 // Whether some input is answered as the walk tells, and the lines of the first `same` records are the right ones.
@@ -164,9 +171,8 @@ fn is_answered(s: &[u8], right: &[u8], same: usize, w: Reach) -> bool {
     let mut out = io::large_buffer();
     let next = Record::fresh();
     let served = stream::serve(next, &mut ring, s, 0, true, &mut out);
-    (served.at == w.at)
-        & (served.ended == w.bad)
-        & is_right(part(&out, 0, served.filled), right, same, w)
+    let is_reached = (served.at == w.at) & (served.at <= s.len()) & (served.ended == w.bad);
+    is_reached & is_right(part(&out, 0, served.filled), right, same, w)
 }
 
 fn add(n: u64, holds: bool) -> u64 {
@@ -181,7 +187,7 @@ fn prefix(s: &[u8], right: &[u8], t: Tally) -> Tally {
         wrong: add(t.wrong, !holds),
         answered: t.answered,
         bad: t.bad,
-        off: t.off,
+        mistaken: t.mistaken,
     }
 }
 
@@ -211,7 +217,7 @@ fn change(s: &[u8], right: &[u8], at: usize, t: Tally) -> Tally {
         wrong: t.wrong,
         answered: add(t.answered, holds & !w.bad),
         bad: add(t.bad, holds & w.bad),
-        off: add(t.off, !holds),
+        mistaken: add(t.mistaken, !holds),
     }
 }
 
@@ -254,7 +260,7 @@ fn unread(t: Tally) -> Tally {
         wrong: add(t.wrong, true),
         answered: t.answered,
         bad: t.bad,
-        off: t.off,
+        mistaken: t.mistaken,
     }
 }
 
@@ -286,26 +292,23 @@ fn damaged(name: &[u8], every: usize, step: u8, t: Tally) -> Tally {
     changed(&mut input, a.len, text, every, step, all)
 }
 
-fn say(out: &[u8], n: usize) {
-    io::write_all(STDOUT_FILENO, part(out, 0, n));
+fn say(s: &[u8]) {
+    io::write_all(STDOUT_FILENO, s);
+}
+
+fn say_count(n: u64, what: &[u8]) {
+    io::print_decimal(STDOUT_FILENO, n);
+    say(what);
 }
 
 fn report(t: Tally) {
-    let mut out = [0u8; 200];
-    let a = text::put_bytes(&mut out, 0, b"prefixes: ");
-    let b = text::put_decimal(&mut out, a, t.right);
-    let c = text::put_bytes(&mut out, b, b" right, ");
-    let d = text::put_decimal(&mut out, c, t.wrong);
-    let e = text::put_bytes(&mut out, d, b" wrong\n");
-    say(&out, e);
-    let a = text::put_bytes(&mut out, 0, b"changed bytes: ");
-    let b = text::put_decimal(&mut out, a, t.answered);
-    let c = text::put_bytes(&mut out, b, b" answered, ");
-    let d = text::put_decimal(&mut out, c, t.bad);
-    let e = text::put_bytes(&mut out, d, b" bad, ");
-    let f = text::put_decimal(&mut out, e, t.off);
-    let g = text::put_bytes(&mut out, f, b" wrong\n");
-    say(&out, g);
+    say(b"prefixes: ");
+    say_count(t.right, b" right, ");
+    say_count(t.wrong, b" wrong\n");
+    say(b"changed bytes: ");
+    say_count(t.answered, b" answered, ");
+    say_count(t.bad, b" bad, ");
+    say_count(t.mistaken, b" wrong\n");
 }
 
 fn main() {
@@ -314,7 +317,7 @@ fn main() {
         wrong: 0,
         answered: 0,
         bad: 0,
-        off: 0,
+        mistaken: 0,
     };
     let a = damaged(b"worked", 1, 1, none);
     let b = damaged(b"004", 7, 51, a);

@@ -198,7 +198,7 @@ fn start(name: &[u8]) -> Record {
     if check::same(name, b"fresh") {
         return Record::fresh();
     }
-    if check::same(name, b"greatest") {
+    if check::same(name, b"near_greatest") {
         return made(Scan::Idle, 0, 4294967294, 1, 4294967294);
     }
     if check::same(name, b"side_998") {
@@ -244,22 +244,23 @@ fn compare_in(next: Record, len: usize, input: &[u8], right: &[u8]) -> Found {
     compare(next, &mut ring[from..len], input, right)
 }
 
-fn say(out: &[u8], n: usize) {
-    io::write_all(STDOUT_FILENO, part(out, 0, n));
+fn say(s: &[u8]) {
+    io::write_all(STDOUT_FILENO, s);
+}
+
+fn say_count(n: u64, what: &[u8]) {
+    io::print_decimal(STDOUT_FILENO, n);
+    say(what);
 }
 
 fn report(name: &[u8], found: Found) {
-    let mut line = [0u8; 100];
-    let a = text::put_bytes(&mut line, 0, name);
+    say(name);
     if found.right {
-        let b = text::put_bytes(&mut line, a, b" same\n");
-        say(&line, b);
+        say(b" same\n");
         return;
     }
-    let b = text::put_bytes(&mut line, a, b" differs at byte ");
-    let c = text::put_decimal(&mut line, b, found.byte as u64);
-    let d = text::put_bytes(&mut line, c, b"\n");
-    say(&line, d);
+    say(b" differs at byte ");
+    say_count(found.byte as u64, b"\n");
 }
 
 // Tries one case, and says whether it is right.
@@ -271,8 +272,8 @@ fn answer(name: &[u8], len: usize, next: Record) -> bool {
     let b = unhex(part(&digits, 0, a.len), &mut input);
     let c = load_named(name, b".txt", &mut right);
     if !(a.whole & b.whole & c.whole) {
-        say(name, name.len());
-        say(b" cannot be read\n", 16);
+        say(name);
+        say(b" cannot be read\n");
         return false;
     }
     let found = compare_in(next, len, part(&input, 0, b.len), part(&right, 0, c.len));
@@ -318,12 +319,8 @@ fn turns(list: &[u8]) -> Tally {
 
 fn main() {
     let mut list = io::large_buffer();
-    let mut line = [0u8; 100];
     let loaded = load(b"list", &mut list);
     let t = turns(part(&list, 0, loaded.len));
-    let a = text::put_decimal(&mut line, 0, t.cases);
-    let b = text::put_bytes(&mut line, a, b" cases, ");
-    let c = text::put_decimal(&mut line, b, t.differ);
-    let d = text::put_bytes(&mut line, c, b" differ\n");
-    say(&line, d);
+    say_count(t.cases, b" cases, ");
+    say_count(t.differ, b" differ\n");
 }

@@ -1,7 +1,5 @@
 // The desk vectors: each stream of data/ is answered from a fresh box, in several cuts of its input and with little room for the
 // lines, and what is said is held to its right text.
-ghost use Prim.Native.Nat.{_≤_};
-ghost use lib.ListN.{length};
 use libc::STDOUT_FILENO;
 use rules::Record;
 
@@ -149,7 +147,7 @@ fn cut(found: Found, input: &[u8], right: &[u8], step: usize, out: &mut [u8]) ->
     Found {
         right: (byte == n) & (byte == right.len()),
         byte,
-        step,
+        step: if step == 0 { input.len() } else { step },
         room: out.len(),
     }
 }
@@ -191,17 +189,24 @@ fn put_name(out: &mut [u8], i: u64) -> usize {
     put_three(out, at, i - 30)
 }
 
-fn put_found(out: &mut [u8], at: usize, found: Found) -> usize {
+fn say(s: &[u8]) {
+    io::write_all(STDOUT_FILENO, s);
+}
+
+fn say_count(n: u64, what: &[u8]) {
+    io::print_decimal(STDOUT_FILENO, n);
+    say(what);
+}
+
+fn report(found: Found) {
     if found.right {
-        return text::put_bytes(out, at, b" same\n");
+        say(b" same\n");
+        return;
     }
-    let a = text::put_bytes(out, at, b" differs at byte ");
-    let b = text::put_decimal(out, a, found.byte as u64);
-    let c = text::put_bytes(out, b, b" (cut of ");
-    let d = text::put_decimal(out, c, found.step as u64);
-    let e = text::put_bytes(out, d, b", room for ");
-    let f = text::put_decimal(out, e, found.room as u64);
-    text::put_bytes(out, f, b")\n")
+    say(b" differs at byte ");
+    say_count(found.byte as u64, b" (cut of ");
+    say_count(found.step as u64, b", room for ");
+    say_count(found.room as u64, b")\n");
 }
 
 fn load_named(name: &mut [u8], n: usize, kind: &[u8], buf: &mut [u8]) -> Loaded {
@@ -209,38 +214,26 @@ fn load_named(name: &mut [u8], n: usize, kind: &[u8], buf: &mut [u8]) -> Loaded 
     load(part(name, 0, end), buf)
 }
 
-fn say(out: &[u8], n: usize) {
-    io::write_all(STDOUT_FILENO, part(out, 0, n));
-}
-
 // Tries one stream, and says whether it is right.
 fn answer(i: u64) -> bool {
     let mut input = io::large_buffer();
     let mut right = io::large_buffer();
-    let mut line = [0u8; 200];
-    let n = put_name(&mut line, i);
-    let a = load_named(&mut line, n, b".desk", &mut input);
-    let b = load_named(&mut line, n, b".txt", &mut right);
+    let mut name = [0u8; 16];
+    let n = put_name(&mut name, i);
+    let a = load_named(&mut name, n, b".desk", &mut input);
+    let b = load_named(&mut name, n, b".txt", &mut right);
+    say(part(&name, 0, n));
     if !(a.whole & b.whole) {
-        let end = text::put_bytes(&mut line, n, b" cannot be read\n");
-        say(&line, end);
+        say(b" cannot be read\n");
         return false;
     }
     let found = cuts(part(&input, 0, a.len), part(&right, 0, b.len));
-    let end = put_found(&mut line, n, found);
-    say(&line, end);
+    report(found);
     found.right
 }
 
-fn total(differ: u64) {
-    let mut line = [0u8; 64];
-    let a = text::put_bytes(&mut line, 0, b"50 streams, ");
-    let b = text::put_decimal(&mut line, a, differ);
-    let c = text::put_bytes(&mut line, b, b" differ\n");
-    say(&line, c);
-}
-
-fn main() {
+// How many streams differ.
+fn streams() -> u64 {
     let mut differ: u64 = 0;
     let mut i: u64 = 0;
     while i < 50 {
@@ -249,5 +242,11 @@ fn main() {
         }
         i += 1;
     }
-    total(differ);
+    differ
+}
+
+fn main() {
+    let differ = streams();
+    say(b"50 streams, ");
+    say_count(differ, b" differ\n");
 }

@@ -6,10 +6,10 @@ use Rattle.damage.proofs.lines.Statement.{statement}
 use Rattle.damage.proofs.lines.Tie as tie
 
 abbrev Inv-loop : tie.InvT-loop
-Inv-loop s n left₀ i₀ left i = i ≤ length s
+Inv-loop s n left₀ at₀ left at = at ≤ length s
 
 abbrev μ-loop : tie.MeasureT-loop
-μ-loop s n left₀ i₀ left i = length s - i
+μ-loop s n left₀ at₀ left at = length s - at
 
 loop-holds : tie.Need-loop-holds Inv-loop μ-loop
 loop-holds c = search needs
@@ -26,8 +26,8 @@ shared-slice-read-if3 c = search needs
 sub-left : tie.Need-sub-left Inv-loop μ-loop
 sub-left c = search needs
 
-add-i : tie.Need-add-i Inv-loop μ-loop
-add-i c = search needs
+add-at : tie.Need-add-at Inv-loop μ-loop
+add-at c = search needs
 
 loop-less : tie.Need-loop-less Inv-loop μ-loop
 loop-less c = search needs
@@ -52,7 +52,7 @@ lines-spec =
     returns
     shared-slice-read-if3
     sub-left
-    add-i
+    add-at
     loop-less
     loop-again
     returns-2

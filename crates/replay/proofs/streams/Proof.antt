@@ -1,10 +1,10 @@
--- As many streams differ as were answered at most.
+-- No more streams differ than were answered.
 use Prim.Native.Nat.{_≤_, _-_}
 use mathlib.Core.Logic.{⊎-elim}
 use native.Mathlib.Omega.{arith}
 use borrow.Author.Needs.{needs}
-use Rattle.replay.proofs.main.Statement.{statement}
-use Rattle.replay.proofs.main.Tie as tie
+use Rattle.replay.proofs.streams.Statement.{statement}
+use Rattle.replay.proofs.streams.Tie as tie
 
 abbrev Inv-loop : tie.InvT-loop
 Inv-loop differ₀ i₀ differ i = (i ≤ 50) × (differ ≤ i)
@@ -30,14 +30,11 @@ loop-less c = search needs
 loop-again : tie.Need-loop-again Inv-loop μ-loop
 loop-again c = ⊎-elim (λ w. omega arith) (λ w. omega arith) (c .if1 .came)
 
-total-requires : tie.Need-total-requires Inv-loop μ-loop
-total-requires c κs = search needs
-
 returns : tie.Need-returns Inv-loop μ-loop
 returns c = search needs
 
-pub main-spec : {M : Type 1} → statement M
-main-spec =
+pub streams-spec : {M : Type 1} → statement M
+streams-spec =
     tie.close
     (tie.spec
     Inv-loop
@@ -48,5 +45,4 @@ main-spec =
     add-i
     loop-less
     loop-again
-    total-requires
     returns)
