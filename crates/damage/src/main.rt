@@ -191,14 +191,37 @@ fn prefix(s: &[u8], right: &[u8], t: Tally) -> Tally {
     }
 }
 
-fn prefixes(s: &[u8], right: &[u8], t: Tally) -> Tally {
+// A stream that cannot be tried is a wrong prefix.
+fn unread(t: Tally) -> Tally {
+    Tally {
+        right: t.right,
+        wrong: add(t.wrong, true),
+        answered: t.answered,
+        bad: t.bad,
+        mistaken: t.mistaken,
+    }
+}
+
+// Every prefix but the stream itself.
+fn shorter(s: &[u8], right: &[u8], t: Tally) -> Tally {
     let mut all = t;
     let mut n: usize = 0;
     while n < s.len() {
         all = prefix(part(s, 0, n), right, all);
         n += 1;
     }
-    prefix(s, right, all)
+    all
+}
+
+// A stream to be damaged is whole itself, and its right text has a line for each record and no more.
+fn prefixes(s: &[u8], right: &[u8], t: Tally) -> Tally {
+    let all = prefix(s, right, shorter(s, right, t));
+    let w = walk(s);
+    let text = lines(right, w.records);
+    if w.bad | (text.at < right.len()) {
+        return unread(all);
+    }
+    all
 }
 
 fn flip(s: &mut [u8], at: usize, bits: u8) {
@@ -251,17 +274,6 @@ fn changes(s: &mut [u8], right: &[u8], every: usize, step: u8, t: Tally) -> Tall
         at += every;
     }
     all
-}
-
-// A stream that cannot be tried is a wrong prefix.
-fn unread(t: Tally) -> Tally {
-    Tally {
-        right: t.right,
-        wrong: add(t.wrong, true),
-        answered: t.answered,
-        bad: t.bad,
-        mistaken: t.mistaken,
-    }
 }
 
 fn changed(buf: &mut [u8], len: usize, right: &[u8], every: usize, step: u8, t: Tally) -> Tally {

@@ -2,8 +2,8 @@
 use Prim.Native.Nat.{_≤_, _-_}
 use lib.ListN.{length}
 use borrow.Author.Needs.{needs}
-use Rattle.damage.proofs.prefixes.Statement.{statement}
-use Rattle.damage.proofs.prefixes.Tie as tie
+use Rattle.damage.proofs.shorter.Statement.{statement}
+use Rattle.damage.proofs.shorter.Tie as tie
 
 abbrev Inv-loop : tie.InvT-loop
 Inv-loop s right all₀ n₀ all n = n ≤ length s
@@ -29,14 +29,11 @@ loop-less c = search needs
 loop-again : tie.Need-loop-again Inv-loop μ-loop
 loop-again c = search needs
 
-prefix-requires-2 : tie.Need-prefix-requires-2 Inv-loop μ-loop
-prefix-requires-2 c κs = search needs
-
 returns : tie.Need-returns Inv-loop μ-loop
 returns c = search needs
 
-pub prefixes-spec : {M : Type 1} → statement M
-prefixes-spec =
+pub shorter-spec : {M : Type 1} → statement M
+shorter-spec =
     tie.close
     (tie.spec
     Inv-loop
@@ -47,5 +44,4 @@ prefixes-spec =
     add-n
     loop-less
     loop-again
-    prefix-requires-2
     returns)
