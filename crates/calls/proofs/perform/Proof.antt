@@ -1,3 +1,4 @@
+-- In each arm the call's own contract, under its case of the answer; where no name is told, the name is blank.
 use mathlib.Core.Path.{refl, ap}
 use borrow.Author.Needs.{needs}
 use Rattle.calls.proofs.Through.{nameless, done-nameless, granted-nameless, fetched-nameless, standing-nameless, sided-nameless, fed-nameless}
