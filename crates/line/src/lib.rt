@@ -1,7 +1,7 @@
 // The desk's line for one answered record.
 mod extra;
 mod lent;
-mod number;
+pub mod number;
 
 use answers::Name;
 use calls::Answer;

@@ -7,12 +7,12 @@ use answers::Why;
 use rules::Record;
 use rules::Ring;
 ghost use mathlib.Core.Path.{_≡_};
-ghost use mathlib.Core.List.{[]};
-ghost use Prim.Native.Nat.{_+_, _≤_};
+ghost use mathlib.Core.List.{List, []};
+ghost use Prim.Native.Nat.{ℕ, _+_, _≤_};
 ghost use Rattle.rules.specs.Feeder.{trayAt};
 ghost use Rattle.rules.specs.Moves.{withFeeder, filled};
 ghost use Rattle.rules.specs.Calls.{report, Bytes, SideEnded, Tray, Path, Tick};
-ghost use lib.ListN.{replicate};
+ghost use lib.ListN.{length as len, replicate};
 ghost use Rattle.rules.specs.Machine.{step, run};
 ghost use Rattle.answers.specs.Told.{stateOf, outcome, done, put};
 
@@ -106,13 +106,20 @@ pub fn path(r: Record, ring: &[u8], value: u8) -> AfterCall
     AfterCall::told(Done::Accepted, moves::report::set_path(value, r))
 }
 
-pub fn tick(r: Record, ring: &[u8]) -> AfterCall
-    ensures { λ a. ⌜ outcome (done (a .answer)) (a .next) (now (ring .entry)) [] ≡ step (stateOf r (now (ring .entry))) (report Tick) ⌝ }
+// What a ring's bytes are matters to no second, only how many they are.
+pub fn tick_in(r: Record, length: usize) -> AfterCall
+    ensures { λ a. ⌜ ((ring : List ℕ) → len ring ≡ length → outcome (done (a .answer)) (a .next) ring [] ≡ step (stateOf r ring) (report Tick)) ⌝ }
 {
-    if !state::sound_with(r, ring) {
+    if !state::is_sound(r, length) {
         return AfterCall::told(Done::Refused(Why::Unsound), r);
     }
     AfterCall::told(Done::Accepted, moves::report::tick(r))
+}
+
+pub fn tick(r: Record, ring: &[u8]) -> AfterCall
+    ensures { λ a. ⌜ outcome (done (a .answer)) (a .next) (now (ring .entry)) [] ≡ step (stateOf r (now (ring .entry))) (report Tick) ⌝ }
+{
+    tick_in(r, ring.len())
 }
 
 // So many seconds, one Tick after the other: the record that they leave.

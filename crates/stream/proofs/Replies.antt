@@ -14,9 +14,10 @@ use Rattle.answers.specs.Told.{stateOf, outcome}
 use Rattle.text.specs.Put.{Puts}
 use Rattle.text.proofs.Putting.{moved}
 use Rattle.line.specs.Line.{lineOf, lineFor}
+use Rattle.line.proofs.Lines.{same-number}
 use Rattle.calls.specs.declared.Answer.{Answer}
 use Rattle.calls.specs.declared.Request.{Request}
-use Rattle.calls.specs.Asked.{asked, answered}
+use Rattle.calls.specs.Asked.{blank, asked, answered}
 use Rattle.stream.specs.Desk.{replyRoom, callWith, callOf}
 
 -- an outcome but for the reply
@@ -74,6 +75,9 @@ module _ (s : State) (a : Request) (given reply : List ℕ) (n : Name) (after ri
   pub answered-line : (kind : ℕ) {at filled : ℕ} {o o₁ : List ℕ} → Puts o at (lineOf kind (answered n after x) next) filled o₁
       → Puts o at (lineFor kind (step s (callWith (length reply) a given))) filled o₁
   answered-line kind p = moved p (ap (λ (b : Bare). lineOf kind (record { number = b .number; values = b .values }) (b .state .box)) told)
+
+  pub answered-number : {number : ℕ} → number ≡ answered blank [] x .number → number ≡ step s (callWith (length reply) a given) .number
+  answered-number f = f ∙ same-number n after x ∙ ap (λ (b : Bare). b .number) told
 
 -- no call is lent more than the reply's room
 pub lent-room : (a : Request) (given : List ℕ) → length (lent (callOf a given)) ≤ replyRoom

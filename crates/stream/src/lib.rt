@@ -11,6 +11,7 @@ ghost use lib.Dec.{leb};
 ghost use lib.ListN.{length};
 ghost use Rattle.rules.specs.Machine.{step};
 ghost use Rattle.answers.specs.Told.{stateOf};
+ghost use Rattle.calls.specs.Asked.{asked, kindOf, replied};
 ghost use Rattle.text.specs.Put.{Puts};
 ghost use Rattle.records.specs.Reading.{cutAt};
 ghost use Rattle.line.specs.Line.{lineFor, lineRoom};
@@ -28,13 +29,15 @@ pub struct Served {
     pub ended: bool,
 }
 
-// The record after an answer, and the place behind its line.
+// The record after an answer, its number, and the place behind its line.
 pub struct Turn {
     pub next: Record,
+    pub number: u16,
     pub filled: usize,
 }
 
-fn answer(
+// One request answered, and its line put.
+pub fn answer(
     r: Record,
     ring: &mut [u8],
     reply: &mut [u8],
@@ -49,16 +52,24 @@ fn answer(
     ensures { λ t. ⌜ Puts (now (out .entry)) at
         (lineFor kind (step (stateOf r (now (ring .entry))) (callWith (length (now (reply .entry))) request (now (given .entry)))))
         (t .filled) (now (out .exit)) ⌝ }
+    ensures { λ t. ⌜ t .number ≡ step (stateOf r (now (ring .entry))) (callWith (length (now (reply .entry))) request (now (given .entry))) .number ⌝ }
+    ensures { λ _. ⌜ now (reply .exit)
+        ≡ replied (kindOf request) (step (stateOf r (now (ring .entry))) (asked request (now (given .entry)) (now (reply .entry)))) (now (reply .entry)) ⌝ }
 {
     let after = calls::perform(r, ring, request, given, reply);
     let next = after.next;
     let name = after.name;
     let answer = after.answer;
+    let number = line::number::number_of(answer);
     let filled = line::put_line(out, at, kind, next, name, answer, reply);
-    Turn { next, filled }
+    Turn {
+        next,
+        number,
+        filled,
+    }
 }
 
-fn put_bad(out: &mut [u8], at: usize, offset: u64) -> usize
+pub fn put_bad(out: &mut [u8], at: usize, offset: u64) -> usize
     ensures { λ r. ⌜ Puts (now (out .entry)) at (badLine offset) r (now (out .exit)) ⌝ }
 {
     let a = text::put_bytes(out, at, b"bad ");

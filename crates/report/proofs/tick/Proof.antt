@@ -1,31 +1,14 @@
--- `report::tick`: each return walks the call's refusals up to the test that answered (`Leads`).
+-- `report::tick`: a second with the ring's length.
+use mathlib.Core.Path.{refl}
 use borrow.Author.Needs.{needs}
-use Rattle.rules.specs.Machine.{step, refusals, reportRefusals, effect, reportEffect}
-use Rattle.answers.proofs.Leads.{leads, accept, hit, skip, tests}
 use Rattle.report.proofs.tick.Statement.{statement}
 use Rattle.report.proofs.tick.Tie as tie
 
-sound-with-requires : tie.Need-sound-with-requires
-sound-with-requires c κs = search needs
-
-told-requires : tie.Need-told-requires
-told-requires c κs = search needs
+tick-in-requires : tie.Need-tick-in-requires
+tick-in-requires c κs = search needs
 
 returns : tie.Need-returns
-unfolding step refusals reportRefusals effect reportEffect
-returns c = rw (c .told .ensures) (leads (hit (search tests)))
-
-tick-requires : tie.Need-tick-requires
-tick-requires c κs = search needs
-
-told-requires-2 : tie.Need-told-requires-2
-told-requires-2 c κs = search needs
-
-returns-2 : tie.Need-returns-2
-unfolding step refusals reportRefusals effect reportEffect
-returns-2 c = rw (c .told2 .ensures, c .before .tick .ensures) (leads (skip (search tests) accept))
+returns c = c .tick-in .ensures _ refl
 
 pub tick-spec : {M : Type 1} → statement M
-tick-spec =
-    tie.close
-    (tie.spec sound-with-requires told-requires returns tick-requires told-requires-2 returns-2)
+tick-spec = tie.close (tie.spec tick-in-requires returns)

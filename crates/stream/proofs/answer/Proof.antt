@@ -2,50 +2,57 @@
 use Rattle.rules.specs.Calls.{lent}
 use Rattle.answers.specs.Told.{stateOf}
 use Rattle.calls.specs.Asked.{asked}
-use Rattle.stream.proofs.Replies.{answered-state, answered-line}
+use Rattle.stream.proofs.Replies.{answered-state, answered-line, answered-number}
 use borrow.Author.Needs.{needs}
 use Rattle.stream.proofs.answer.Statement.{statement}
 use Rattle.stream.proofs.answer.Tie as tie
 use Rattle.stream.proofs.answer.Reads as reads
 use Rattle.stream.proofs.answer.Lts as lts
 use Rattle.calls.proofs.perform.Reads as perform-reads
+use Rattle.line.proofs.number.number_of.Reads as number-of-reads
 use Rattle.line.proofs.put_line.Reads as put-line-reads
 
--- src/lib.rt:49:9
 perform-requires : tie.Need-perform-requires
 perform-requires c κs = search needs
 
--- src/lib.rt:53:9
+number-of-requires : tie.Need-number-of-requires
+number-of-requires c κs = search needs
+
 put-line-requires : tie.Need-put-line-requires
 put-line-requires c κs = search needs
 
--- src/lib.rt:34:1
 same-length : tie.Need-same-length
 same-length c = search needs
 
--- src/lib.rt:34:1
 same-length-2 : tie.Need-same-length-2
 same-length-2 c = search needs
 
--- src/lib.rt:34:1
 same-length-3 : tie.Need-same-length-3
 same-length-3 c = search needs
 
--- src/lib.rt:34:1
 returns : tie.Need-returns
 returns c =
-    let before = c .before .before .before .before .before .before .before .before .before .before .before in
-    let p = before .perform in
-    let a = before .before .before .before .before .before .before .before .args in
+    let lined = c .before .before in
+    let numbered = lined .before .before .before in
+    let p = numbered .before .before .before .before .before .before .before .perform in
+    let a = numbered .before .before .before .before .before .before .before .before .before .before .before .before .before .before .args in
     let reply = p .last .1 .1 .1 .1 .0 in
-    let call = lent (asked (a .request) (a .given .now) reply) in (
-      answered-state (stateOf (a .r) (a .ring .now)) (a .request) (a .given .now) (a .reply .now) (p .result .name) reply (p .last .1 .0) call
-          (p .result .answer) (p .result .next) (p .ensures .0),
-      answered-line (stateOf (a .r) (a .ring .now)) (a .request) (a .given .now) (a .reply .now) (p .result .name) reply (p .last .1 .0) call
-          (p .result .answer) (p .result .next) (p .ensures .0) (a .kind) (c .before .before .put-line .ensures),
+    let call = lent (asked (a .request) (a .given .now) reply) in
+    let box = stateOf (a .r) (a .ring .now) in (
+      answered-state box (a .request) (a .given .now) (a .reply .now) (p .result .name) reply (p .last .1 .0) call (p .result .answer)
+          (p .result .next) (p .ensures .0),
+      (
+        answered-line box (a .request) (a .given .now) (a .reply .now) (p .result .name) reply (p .last .1 .0) call (p .result .answer)
+            (p .result .next) (p .ensures .0) (a .kind) (lined .put-line .ensures),
+        (
+          answered-number box (a .request) (a .given .now) (a .reply .now) (p .result .name) reply (p .last .1 .0) call (p .result .answer)
+              (p .result .next) (p .ensures .0) (numbered .number-of .ensures),
+          p .ensures .1 .0,
+        ),
+      ),
     )
 
 pub answer-spec : {M : Type 1} → statement M
 answer-spec =
     tie.close
-    (tie.spec perform-requires put-line-requires same-length same-length-2 same-length-3 returns)
+    (tie.spec perform-requires number-of-requires put-line-requires same-length same-length-2 same-length-3 returns)

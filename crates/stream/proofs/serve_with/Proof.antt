@@ -177,7 +177,7 @@ loop-again c =
     serving-again (room .before .before .loop .inv) (room .before .loop-test .taken) (room .has-room .ensures) (got .before .before .before .if1 .left) _ _ _ _
     (sym (got .before .before .read .ensures) ∙ got .reading .given .1) _ (asked .before .payload .ensures) _ (asked .request .ensures)
     _ (answer .before .before .before .before .before .before .asking .given .1) _ (answer .before .before .before .before .given .ensures)
-    _ _ _ _ _ (answer .answer .ensures .0) (answer .answer .ensures .1) (search needs) (search needs)
+    _ _ _ _ _ (answer .answer .ensures .0) (answer .answer .ensures .1 .0) (search needs) (search needs)
 
 -- src/lib.rt:107:1
 same-length-10 : tie.Need-same-length-10 Inv-loop μ-loop
