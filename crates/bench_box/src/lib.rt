@@ -4,27 +4,51 @@ use records::Reading;
 use requests::Asking;
 use rules::Record;
 use stored::Loading;
+use stream::Turn;
+ghost use mathlib.Core.Path.{_≡_};
+ghost use mathlib.Core.List.{[], _∷_};
+ghost use Rattle.rules.specs.Record.{fresh};
+ghost use Rattle.stored.specs.Stored.{kept, loading};
+ghost use Rattle.bench_box.specs.Host.{lentBox, tickNumber, tickWords, told, flag, came, onceIn, serving, performing};
 
 const UNSOUND: u16 = 604;
 
 // The answer to a question that is none.
 const NONE: u64 = 18446744073709551615;
 
-// What a record or a window came to.
-struct Came {
+// How far a record or a window was read, how much text stands in the lines, and whether a bad record was met.
+struct Progress {
     read: usize,
     written: usize,
     ended: usize,
 }
 
-fn report(progress: &mut [usize; 3], came: Came) {
-    progress[0] = came.read;
-    progress[1] = came.written;
-    progress[2] = came.ended;
+// What came of one record.
+struct One {
+    next: Record,
+    number: u16,
+    progress: Progress,
+}
+
+fn flag(b: bool) -> usize
+    ensures { λ n. ⌜ n ≡ flag b ⌝ }
+{
+    if b {
+        return 1;
+    }
+    0
+}
+
+fn tell(out: &mut [usize; 3], p: Progress)
+    ensures { λ _. ⌜ now (out .exit) ≡ p .read ∷ p .written ∷ p .ended ∷ [] ⌝ }
+{
+    *out = [p.read, p.written, p.ended];
 }
 
 // The record of a box, if it is sound with a ring of so many bytes.
-fn sound(words: &[u64; 18], length: usize) -> Loading {
+fn lent(words: &[u64; 18], length: usize) -> Loading
+    ensures { λ l. ⌜ l ≡ lentBox (now (words .entry)) length ⌝ }
+{
     let loading = stored::load(words);
     let Loading::Loads(r) = loading else {
         return Loading::Malformed;
@@ -35,36 +59,45 @@ fn sound(words: &[u64; 18], length: usize) -> Loading {
     Loading::Loads(r)
 }
 
-// What came of the record at the front of some input.
-struct One {
-    next: Record,
-    number: u16,
-    came: Came,
-}
-
-fn idle(next: Record) -> One {
-    One {
-        next,
-        number: 0,
-        came: Came {
-            read: 0,
-            written: 0,
-            ended: 0,
-        },
+fn nothing_done() -> Progress
+    ensures { λ p. ⌜ p ≡ record { read = 0; written = 0; ended = 0 } ⌝ }
+{
+    Progress {
+        read: 0,
+        written: 0,
+        ended: 0,
     }
 }
 
-// No record reads: the bad line.
-fn bad(next: Record, offset: u64, out: &mut [u8]) -> One {
-    let end = stream::put_bad(out, 0, offset);
+// ---- one record, by value
+fn stayed(next: Record, written: usize, ended: usize) -> One
+    ensures { λ o. ⌜ o ≡ record { next = next; number = 0; progress = record { read = 0; written = written; ended = ended } } ⌝ }
+{
+    let progress = Progress {
+        read: 0,
+        written,
+        ended,
+    };
     One {
         next,
         number: 0,
-        came: Came {
-            read: 0,
-            written: end,
-            ended: 1,
-        },
+        progress,
+    }
+}
+
+fn answered(turn: Turn, read: usize) -> One
+    ensures { λ o. ⌜ o ≡ record { next = turn .next; number = turn .number; progress = record { read = read; written = turn .filled; ended = 0 } } ⌝ }
+{
+    let next = turn.next;
+    let progress = Progress {
+        read,
+        written: turn.filled,
+        ended: 0,
+    };
+    One {
+        next,
+        number: turn.number,
+        progress,
     }
 }
 
@@ -75,9 +108,12 @@ fn perform(
     s: &[u8],
     offset: u64,
     out: &mut [u8],
-) -> One {
+) -> One
+    ensures { λ o. ⌜ came o (now (ring .exit)) (now (reply .exit)) (now (out .exit))
+        ≡ onceIn r (now (ring .entry)) (now (reply .entry)) (now (s .entry)) offset (now (out .entry)) ⌝ }
+{
     if !stream::has_room(0, out.len()) {
-        return idle(r);
+        return stayed(r, 0, 0);
     }
     let reading = records::read::read(s, 0);
     let Reading::Record {
@@ -87,34 +123,33 @@ fn perform(
         next: place,
     } = reading
     else {
-        return bad(r, offset, out);
+        let end = stream::put_bad(out, 0, offset);
+        return stayed(r, end, 1);
     };
     let body = records::read::payload(s, start, len);
     let asking = requests::request(kind, body);
     let Asking::Asks(request) = asking else {
-        return bad(r, offset, out);
+        let end = stream::put_bad(out, 0, offset);
+        return stayed(r, end, 1);
     };
     let given = requests::given(kind, body);
     let turn = stream::answer(r, ring, reply, kind, request, given, out, 0);
-    let next = turn.next;
-    One {
-        next,
-        number: turn.number,
-        came: Came {
-            read: place,
-            written: turn.filled,
-            ended: 0,
-        },
-    }
+    answered(turn, place)
 }
 
+// ---- the functions of the header
 #[no_mangle]
-pub extern "C" fn bench_box_fresh(words: &mut [u64; 18]) {
+pub extern "C" fn bench_box_fresh(words: &mut [u64; 18])
+    ensures { λ _. ⌜ now (words .exit) ≡ kept fresh ⌝ }
+{
     stored::keep(words, Record::fresh());
 }
 
 #[no_mangle]
-pub extern "C" fn bench_box_tick(words: &mut [u64; 18], length: usize) -> u16 {
+pub extern "C" fn bench_box_tick(words: &mut [u64; 18], length: usize) -> u16
+    ensures { λ n. ⌜ n ≡ tickNumber length (loading (now (words .entry))) ⌝ }
+    ensures { λ _. ⌜ now (words .exit) ≡ tickWords length (now (words .entry)) (loading (now (words .entry))) ⌝ }
+{
     let loading = stored::load(words);
     let Loading::Loads(r) = loading else {
         return UNSOUND;
@@ -126,8 +161,10 @@ pub extern "C" fn bench_box_tick(words: &mut [u64; 18], length: usize) -> u16 {
 }
 
 #[no_mangle]
-pub extern "C" fn bench_box_ask(words: &[u64; 18], length: usize, question: usize) -> u64 {
-    let loading = sound(words, length);
+pub extern "C" fn bench_box_ask(words: &[u64; 18], length: usize, question: usize) -> u64
+    ensures { λ n. ⌜ n ≡ told (now (words .entry)) question (lentBox (now (words .entry)) length) ⌝ }
+{
+    let loading = lent(words, length);
     let Loading::Loads(_) = loading else {
         return NONE;
     };
@@ -146,30 +183,31 @@ pub extern "C" fn bench_box_serve(
     last: bool,
     lines: &mut [u8],
     progress: &mut [usize; 3],
-) -> u16 {
-    let loading = sound(words, ring.len());
+) -> u16
+    ensures { λ n. ⌜ record {
+      number = n;
+      words = now (words .exit);
+      ring = now (ring .exit);
+      reply = [];
+      lines = now (lines .exit);
+      progress = now (progress .exit);
+    }
+        ≡ serving (now (words .entry)) (now (ring .entry)) (now (input .entry)) offset last (now (lines .entry)) ⌝ }
+{
+    let loading = lent(words, ring.len());
     let Loading::Loads(r) = loading else {
-        report(
-            progress,
-            Came {
-                read: 0,
-                written: 0,
-                ended: 0,
-            },
-        );
+        tell(progress, nothing_done());
         return UNSOUND;
     };
     let served = stream::serve(r, ring, input, offset, last, lines);
     let next = served.next;
     stored::keep(words, next);
-    report(
-        progress,
-        Came {
-            read: served.at,
-            written: served.filled,
-            ended: served.ended as usize,
-        },
-    );
+    let came = Progress {
+        read: served.at,
+        written: served.filled,
+        ended: flag(served.ended),
+    };
+    tell(progress, came);
     0
 }
 
@@ -182,23 +220,26 @@ pub extern "C" fn bench_box_perform(
     offset: u64,
     line: &mut [u8],
     progress: &mut [usize; 3],
-) -> u16 {
-    let loading = sound(words, ring.len());
+) -> u16
+    ensures { λ n. ⌜ record {
+      number = n;
+      words = now (words .exit);
+      ring = now (ring .exit);
+      reply = now (reply .exit);
+      lines = now (line .exit);
+      progress = now (progress .exit);
+    }
+        ≡ performing (now (words .entry)) (now (ring .entry)) (now (reply .entry)) (now (input .entry)) offset (now (line .entry)) ⌝ }
+{
+    let loading = lent(words, ring.len());
     let Loading::Loads(r) = loading else {
-        report(
-            progress,
-            Came {
-                read: 0,
-                written: 0,
-                ended: 0,
-            },
-        );
+        tell(progress, nothing_done());
         return UNSOUND;
     };
     let one = perform(r, ring, reply, input, offset, line);
     let next = one.next;
     stored::keep(words, next);
-    let came = one.came;
-    report(progress, came);
+    let came = one.progress;
+    tell(progress, came);
     one.number
 }

@@ -1,6 +1,9 @@
 // The tick entry: the box's second timer owns the record, lends it for each tick and finds it updated there.
 use answers::Done;
 use rules::Record;
+ghost use mathlib.Core.Path.{_≡_};
+ghost use Rattle.answers.specs.Told.{done};
+ghost use Rattle.entry.specs.Second.{secondOf};
 
 // A second's record and number.
 pub struct Ticked {
@@ -8,7 +11,9 @@ pub struct Ticked {
     pub number: u16,
 }
 
-fn number_of(answer: Done) -> u16 {
+fn number_of(answer: Done) -> u16
+    ensures { λ n. ⌜ n ≡ done answer .number ⌝ }
+{
     match answer {
         Done::Accepted => 0,
         Done::Refused(why) => why.number(),
@@ -16,7 +21,10 @@ fn number_of(answer: Done) -> u16 {
 }
 
 // A second, for a ring of so many bytes.
-pub fn second(r: Record, length: usize) -> Ticked {
+pub fn second(r: Record, length: usize) -> Ticked
+    ensures { λ t. ⌜ t .number ≡ secondOf r length .number ⌝ }
+    ensures { λ t. ⌜ t .next ≡ secondOf r length .state .box ⌝ }
+{
     let after = report::tick_in(r, length);
     let next = after.next;
     let answer = after.answer;
@@ -24,4 +32,14 @@ pub fn second(r: Record, length: usize) -> Ticked {
         next,
         number: number_of(answer),
     }
+}
+
+// The record is lent for each tick and found updated there.
+pub fn tick(r: &mut Record, length: usize) -> u16
+    ensures { λ n. ⌜ (n ≡ secondOf (now (r .entry)) length .number) × (now (r .exit) ≡ secondOf (now (r .entry)) length .state .box) ⌝ }
+{
+    let was = *r;
+    let after = second(was, length);
+    *r = after.next;
+    after.number
 }
