@@ -6,9 +6,10 @@ use rules::Record;
 use stored::Loading;
 use stream::Turn;
 ghost use mathlib.Core.Path.{_≡_};
+ghost use mathlib.Core.Bool.{true};
 ghost use mathlib.Core.List.{[], _∷_};
 ghost use Rattle.rules.specs.Record.{fresh};
-ghost use Rattle.stored.specs.Stored.{kept, loading};
+ghost use Rattle.stored.specs.Stored.{kept, fitting, loading};
 ghost use Rattle.bench_box.specs.Host.{lentBox, tickNumber, tickWords, told, flag, came, onceIn, serving, performing};
 
 const UNSOUND: u16 = 604;
@@ -141,6 +142,7 @@ fn perform(
 #[no_mangle]
 pub extern "C" fn bench_box_fresh(words: &mut [u64; 18])
     ensures { λ _. ⌜ now (words .exit) ≡ kept fresh ⌝ }
+    ensures { λ _. ⌜ fitting (now (words .exit)) ≡ true ⌝ }
 {
     stored::keep(words, Record::fresh());
 }
@@ -149,6 +151,7 @@ pub extern "C" fn bench_box_fresh(words: &mut [u64; 18])
 pub extern "C" fn bench_box_tick(words: &mut [u64; 18], length: usize) -> u16
     ensures { λ n. ⌜ n ≡ tickNumber length (loading (now (words .entry))) ⌝ }
     ensures { λ _. ⌜ now (words .exit) ≡ tickWords length (now (words .entry)) (loading (now (words .entry))) ⌝ }
+    ensures { λ _. ⌜ (fitting (now (words .entry)) ≡ true → fitting (now (words .exit)) ≡ true) ⌝ }
 {
     let loading = stored::load(words);
     let Loading::Loads(r) = loading else {
@@ -193,6 +196,7 @@ pub extern "C" fn bench_box_serve(
       progress = now (progress .exit);
     }
         ≡ serving (now (words .entry)) (now (ring .entry)) (now (input .entry)) offset last (now (lines .entry)) ⌝ }
+    ensures { λ _. ⌜ (fitting (now (words .entry)) ≡ true → fitting (now (words .exit)) ≡ true) ⌝ }
 {
     let loading = lent(words, ring.len());
     let Loading::Loads(r) = loading else {
@@ -230,6 +234,7 @@ pub extern "C" fn bench_box_perform(
       progress = now (progress .exit);
     }
         ≡ performing (now (words .entry)) (now (ring .entry)) (now (reply .entry)) (now (input .entry)) offset (now (line .entry)) ⌝ }
+    ensures { λ _. ⌜ (fitting (now (words .entry)) ≡ true → fitting (now (words .exit)) ≡ true) ⌝ }
 {
     let loading = lent(words, ring.len());
     let Loading::Loads(r) = loading else {

@@ -1,7 +1,7 @@
 // The desk's line for one answered record.
 mod extra;
 mod lent;
-pub mod number;
+mod number;
 
 use answers::Name;
 use calls::Answer;
@@ -98,6 +98,12 @@ fn put_counts(out: &mut [u8], at: usize, job: u32, side: u16, count: u32) -> usi
     text::put_byte(out, space, b' ')
 }
 
+// Where a line ends, and the number in it.
+pub struct Lined {
+    pub end: usize,
+    pub number: u16,
+}
+
 pub fn put_line(
     out: &mut [u8],
     at: usize,
@@ -106,8 +112,9 @@ pub fn put_line(
     name: Name,
     answer: Answer,
     reply: &[u8],
-) -> usize
-    ensures { λ q. ⌜ Puts (now (out .entry)) at (lineOf kind (answered name (now (reply .entry)) answer) r) q (now (out .exit)) ⌝ }
+) -> Lined
+    ensures { λ l. ⌜ Puts (now (out .entry)) at (lineOf kind (answered name (now (reply .entry)) answer) r) (l .end) (now (out .exit)) ⌝ }
+    ensures { λ l. ⌜ l .number ≡ answered name (now (reply .entry)) answer .number ⌝ }
 {
     let scanner = r.scanner;
     let feeder = r.feeder;
@@ -116,6 +123,7 @@ pub fn put_line(
     let number = number::number_of(answer);
     let counts = put_head(out, at, kind, number, s, f);
     let extra = put_counts(out, counts, r.job.held, r.side.number, r.side.count);
-    let end = extra::put_extra(out, extra, name, answer, reply);
-    text::put_byte(out, end, b'\n')
+    let last = extra::put_extra(out, extra, name, answer, reply);
+    let end = text::put_byte(out, last, b'\n');
+    Lined { end, number }
 }

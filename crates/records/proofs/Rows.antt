@@ -1,78 +1,35 @@
--- The table's rules, each by one test that computes. Over the 256 kinds: the row at a kind's place is its row. Over the rows: no payload
--- is longer than 255 bytes.
-use Prim.Native.Nat.{ℕ, zero, suc, _<_, _≤_}
-use mathlib.Core.Path.{_≡_, refl, _∙_}
+-- The table's rules, each by recursion over the rows: a kind that is no row's is unlisted, and no payload is longer than 255 bytes.
+use Prim.Native.Nat.{ℕ, _≤_}
+use mathlib.Core.Path.{_≡_, refl, sym, ap, _∙_}
 use mathlib.Core.Bool.{Bool, true, false, _&&_, cond, false≢true}
 use mathlib.Core.List.{List, [], _∷_}
 use native.Mathlib.Omega.{arith}
 use lib.Dec.{eqb, leb}
-use lib.ListN.{getD}
-use borrow.Author.Tests.{eqb-true, eqb-false, leb-true}
-use Rattle.rules.proofs.Guards.{eq-then, eq-else}
+use borrow.Author.Tests.{leb-true, ne-eqb}
 use Rattle.rules.proofs.Choice.{and-l, and-r}
 use Rattle.records.specs.declared.Row.{Row}
 use Rattle.records.specs.declared.Limits.{Limits}
-use Rattle.records.specs.Kinds.{row, table, limitsIn, limitsOf, within}
-use Rattle.records.specs.Places.{placeOf}
+use Rattle.records.specs.Kinds.{table, limitsIn, limitsOf, within}
 
--- ---- the row at a kind's place
--- what a row says of a kind
-abbrev says : Row → ℕ → Limits
-says r k = cond (eqb (r .kind) k) (Limits.Listed (r .least) (r .greatest)) Limits.Unlisted
+-- ---- the arms of `limits`
+-- a kind that is known, and what its row says of it
+pub arm : (k j : ℕ) (w : Row) (r : Limits) → k ≡ j → r ≡ limitsIn k (w ∷ []) → limitsIn j (w ∷ []) ≡ limitsOf j → r ≡ limitsOf k
+arm k j w r e f g = f ∙ ap (λ (n : ℕ). limitsIn n (w ∷ [])) e ∙ g ∙ ap limitsOf (sym e)
 
-abbrev rowAt : ℕ → Row
-rowAt i = getD table i (row 0 0 0)
+-- a kind that is none of the rows': what is known besides, then a miss for each row
+abbrev Misses : ℕ → List Row → Type 0 → Type 0
+Misses k [] N = N
+Misses k (w ∷ rest) N = Misses k rest (N × (k ≡ w .kind → ⊥))
 
-same : Limits → Limits → Bool
-same Limits.Unlisted Limits.Unlisted = true
-same Limits.Unlisted (Limits.Listed lo hi) = false
-same (Limits.Listed lo hi) Limits.Unlisted = false
-same (Limits.Listed lo hi) (Limits.Listed lo' hi') = eqb lo lo' && eqb hi hi'
+missed : (k : ℕ) (rows : List Row) (N : Type 0) → Misses k rows N → (Limits.Unlisted ≡ limitsIn k rows) × N
+unfolding limitsIn
+missed k [] N m = (refl, m)
+missed k (w ∷ rest) N m =
+    let later = missed k rest (N × (k ≡ w .kind → ⊥)) m in
+    (later .0 ∙ rw (ne-eqb (w .kind) k (λ e. later .1 .1 (sym e))), later .1 .0)
 
-same-true : (x y : Limits) → same x y ≡ true → x ≡ y
-unfolding same
-same-true Limits.Unlisted Limits.Unlisted e = refl
-same-true Limits.Unlisted (Limits.Listed lo hi) e = absurd (false≢true e)
-same-true (Limits.Listed lo hi) Limits.Unlisted e = absurd (false≢true e)
-same-true (Limits.Listed lo hi) (Limits.Listed lo' hi') e =
-    rw (eqb-true lo lo' (and-l (eqb lo lo') (eqb hi hi') e), eqb-true hi hi' (and-r (eqb lo lo') (eqb hi hi') e))
-
--- a test passes at each number below n
-allBelow : (ℕ → Bool) → ℕ → Bool
-allBelow f zero = true
-allBelow f (suc n) = f n && allBelow f n
-
-below : (f : ℕ → Bool) (n : ℕ) → allBelow f n ≡ true → (k : ℕ) → k < n → f k ≡ true
-unfolding allBelow
-below f zero e k h = absurd (omega arith)
-below f (suc n) e k h =
-    last (eqb k n) refl (and-l (f n) (allBelow f n) e) (λ g. below f n (and-r (f n) (allBelow f n) e) k g)
-  where
-    last : (t : Bool) → eqb k n ≡ t → f n ≡ true → (k < n → f k ≡ true) → f k ≡ true
-    last true p a b = rw (eqb-true k n p) a
-    last false p a b = b (let g = eqb-false k n p in omega arith)
-
--- the test
-right : ℕ → Bool
-right k = same (says (rowAt (placeOf k)) k) (limitsOf k)
-
-all-right : allBelow right 256 ≡ true
-unfolding allBelow right same limitsIn table
-all-right = refl
-
-at-place : (k : ℕ) → k < 256 → says (rowAt (placeOf k)) k ≡ limitsOf k
-unfolding right
-at-place k h = same-true (says (rowAt (placeOf k)) k) (limitsOf k) (below right 256 all-right k h)
-
-module _ (k i : ℕ) (h : k < 256) (e : i ≡ placeOf k) where
-  there : says (rowAt i) k ≡ limitsOf k
-  there = rw e (at-place k h)
-
-  pub row-listed : rowAt i .kind ≡ k → Limits.Listed (rowAt i .least) (rowAt i .greatest) ≡ limitsOf k
-  row-listed f = eq-then (rowAt i .kind) k _ _ _ f refl ∙ there
-
-  pub row-unlisted : (rowAt i .kind ≡ k → ⊥) → Limits.Unlisted ≡ limitsOf k
-  row-unlisted f = eq-else (rowAt i .kind) k _ (Limits.Listed (rowAt i .least) (rowAt i .greatest)) _ f refl ∙ there
+pub other : (k : ℕ) → Misses k table (Unit {0}) → Limits.Unlisted ≡ limitsOf k
+other k m = missed k table (Unit {0}) m .0
 
 -- ---- no payload is longer than 255 bytes
 short : ℕ → List Row → Bool

@@ -21,42 +21,38 @@ ghost use Rattle.rules.specs.Record.{every, idlePoints, heldPoints, ringPoints,
 fn idle_sound(s: Scan, j: Job, d: Side) -> bool
     ensures { λ b. ⌜ b ≡ every (idlePoints s j d) ⌝ }
 {
-    let i = scan::is_idle(s);
     let none = j.held == 0;
-    ((i & none) | (!i & !none))
-        & (!i | (d.number == 1))
-        & (!i | (d.count == 0))
-        & (!i | (j.quiet == 0))
-        & (!i | !(j.stop == 1))
+    if scan::is_idle(s) {
+        return none & (d.number == 1) & (d.count == 0) & (j.quiet == 0) & !(j.stop == 1);
+    }
+    !none
 }
 
 // The ranges of SideNumber and SideCount, and what holds when a job is held.
 fn held_sound(s: Scan, j: Job, d: Side) -> bool
     ensures { λ b. ⌜ b ≡ every (heldPoints s j d) ⌝ }
 {
-    let held = !scan::is_idle(s);
+    let ranged = (d.number <= Side::LAST) & ((d.count <= Side::MOST) | (d.count == Side::ENDLESS));
+    if scan::is_idle(s) {
+        return ranged;
+    }
     let g = j.granted.seconds;
     let limit = scan::limit_of(s, g);
-    (d.number <= Side::LAST)
-        & ((d.count <= Side::MOST) | (d.count == Side::ENDLESS))
-        & (!held | (j.held == j.last))
-        & (!held | (Granted::LEAST <= g))
-        & (!held | (g <= Granted::MOST))
-        & (!held | (j.quiet < limit))
+    ranged & (j.held == j.last) & (Granted::LEAST <= g) & (g <= Granted::MOST) & (j.quiet < limit)
 }
 
 // The ring's length, start and stored count.
 fn ring_sound(s: Scan, g: Ring, len: usize) -> bool
     ensures { λ b. ⌜ b ≡ every (ringPoints s g len) ⌝ }
 {
-    let f = scan::is_finishing(s);
-    let outside = !(scan::is_scanning(s) | f);
-    (1 <= len)
-        & (len <= Ring::MOST)
-        & (g.start < len)
-        & (g.stored <= len)
-        & (!outside | (g.stored == 0))
-        & (!f | (1 <= g.stored))
+    let inside = (1 <= len) & (len <= Ring::MOST) & (g.start < len) & (g.stored <= len);
+    if scan::is_scanning(s) {
+        return inside;
+    }
+    if scan::is_finishing(s) {
+        return inside & (1 <= g.stored);
+    }
+    inside & (g.stored == 0)
 }
 
 // Busy, and SideCount in Scanning and Finishing.
@@ -64,20 +60,26 @@ fn feeder_sound(s: Scan, f: Feed, t: Settings, d: Side) -> bool
     ensures { λ b. ⌜ b ≡ every (feederPoints s f t d) ⌝ }
 {
     let b = feed::is_busy(f);
-    let sc = scan::is_scanning(s);
-    let fi = scan::is_finishing(s);
     let from = t.feeder == 1;
-    let feeds = sc & from;
-    ((b & feeds) | (!b & !feeds))
-        & (!b | !(d.count == 0))
-        & (!(sc & !from) | (d.count == 1))
-        & (!(fi & !from) | (d.count == 0))
+    if scan::is_scanning(s) {
+        if from {
+            return b & !(d.count == 0);
+        }
+        return !b & (d.count == 1);
+    }
+    if scan::is_finishing(s) {
+        return !b & (from | (d.count == 0));
+    }
+    !b
 }
 
-// Settings, marks and sensors.
+// Settings, marks and sensors. With no stop asked and no jam, what follows from them is not asked.
 fn mark_sound(s: Scan, t: Settings, stop: u8, f: Feeder) -> bool
     ensures { λ b. ⌜ b ≡ every (markPoints s t stop f) ⌝ }
 {
+    if (stop == 0) & (f.path == 0) {
+        return (t.feeder <= 1) & (t.append <= 1) & (f.tray <= 1);
+    }
     let at = f.state;
     let stuck = feed::is_erred(at);
     let sc = scan::is_scanning(s);
@@ -104,12 +106,19 @@ pub fn is_sound(r: Record, len: usize) -> bool
     let x = f.state;
     let g = r.ring;
     let stop = j.stop;
-    let idle = idle_sound(s, j, d);
-    let held = held_sound(s, j, d);
-    let ring = ring_sound(s, g, len);
-    let feeder = feeder_sound(s, x, t, d);
-    let marks = mark_sound(s, t, stop, f);
-    idle & held & ring & feeder & marks
+    if !idle_sound(s, j, d) {
+        return false;
+    }
+    if !held_sound(s, j, d) {
+        return false;
+    }
+    if !ring_sound(s, g, len) {
+        return false;
+    }
+    if !feeder_sound(s, x, t, d) {
+        return false;
+    }
+    mark_sound(s, t, stop, f)
 }
 
 // The record is sound with the lent ring.

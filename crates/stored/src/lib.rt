@@ -245,18 +245,21 @@ pub fn load(w: &[u64; 18]) -> Loading
 
 fn of_byte(x: u8) -> u64
     ensures { λ n. ⌜ n ≡ x ⌝ }
+    ensures { λ n. ⌜ n < 256 ⌝ }
 {
     x as u64
 }
 
 fn of_word(x: u16) -> u64
     ensures { λ n. ⌜ n ≡ x ⌝ }
+    ensures { λ n. ⌜ n < 65536 ⌝ }
 {
     x as u64
 }
 
 fn of_long(x: u32) -> u64
     ensures { λ n. ⌜ n ≡ x ⌝ }
+    ensures { λ n. ⌜ n < 4294967296 ⌝ }
 {
     x as u64
 }
@@ -269,6 +272,7 @@ fn of_place(x: usize) -> u64
 
 pub fn keep(w: &mut [u64; 18], r: Record)
     ensures { λ _. ⌜ now (w .exit) ≡ kept r ⌝ }
+    ensures { λ _. ⌜ fitting (now (w .exit)) ≡ true ⌝ }
 {
     let scanner = r.scanner;
     let feeder = r.feeder;

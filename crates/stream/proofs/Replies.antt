@@ -1,6 +1,7 @@
 -- What a lent reply held before matters to no answer.
 use Prim.Native.Nat.{ℕ, _≤_, zero-le}
-use native.Mathlib.Nat.{le-of-eq}
+use native.Mathlib.Nat.{le-refl}
+use native.Mathlib.Omega.{arith}
 use mathlib.Core.Path.{_≡_, refl, sym, ap, _∙_}
 use mathlib.Core.Bool.{true, false}
 use mathlib.Core.List.{List, [], _∷_}
@@ -14,10 +15,9 @@ use Rattle.answers.specs.Told.{stateOf, outcome}
 use Rattle.text.specs.Put.{Puts}
 use Rattle.text.proofs.Putting.{moved}
 use Rattle.line.specs.Line.{lineOf, lineFor}
-use Rattle.line.proofs.Lines.{same-number}
 use Rattle.calls.specs.declared.Answer.{Answer}
 use Rattle.calls.specs.declared.Request.{Request}
-use Rattle.calls.specs.Asked.{blank, asked, answered}
+use Rattle.calls.specs.Asked.{asked, answered}
 use Rattle.stream.specs.Desk.{replyRoom, callWith, callOf}
 
 -- an outcome but for the reply
@@ -76,27 +76,30 @@ module _ (s : State) (a : Request) (given reply : List ℕ) (n : Name) (after ri
       → Puts o at (lineFor kind (step s (callWith (length reply) a given))) filled o₁
   answered-line kind p = moved p (ap (λ (b : Bare). lineOf kind (record { number = b .number; values = b .values }) (b .state .box)) told)
 
-  pub answered-number : {number : ℕ} → number ≡ answered blank [] x .number → number ≡ step s (callWith (length reply) a given) .number
-  answered-number f = f ∙ same-number n after x ∙ ap (λ (b : Bare). b .number) told
+  pub answered-number : {number : ℕ} → number ≡ answered n after x .number → number ≡ step s (callWith (length reply) a given) .number
+  answered-number f = f ∙ ap (λ (b : Bare). b .number) told
 
--- no call is lent more than the reply's room
+-- no call is lent more than the reply
+pub lent-within : (a : Request) (given reply : List ℕ) → length (lent (asked a given reply)) ≤ length reply
+lent-within (Request.StartScan from count append time) given reply = zero-le
+lent-within (Request.Start job from count) given reply = zero-le
+lent-within (Request.Stop job) given reply = zero-le
+lent-within (Request.Abort job) given reply = zero-le
+lent-within (Request.GetDestination job) given reply = zero-le
+lent-within (Request.Fetch most) given reply = le-refl (length reply)
+lent-within Request.GetState given reply = zero-le
+lent-within Request.GetSideInformation given reply = zero-le
+lent-within (Request.Load job) given reply = zero-le
+lent-within (Request.Eject job value) given reply = zero-le
+lent-within (Request.Reset job) given reply = zero-le
+lent-within (Request.SetFeederMode job mode) given reply = zero-le
+lent-within Request.GetFeederState given reply = zero-le
+lent-within Request.GetFeederMode given reply = zero-le
+lent-within Request.Bytes given reply = zero-le
+lent-within Request.SideEnded given reply = zero-le
+lent-within (Request.Tray value) given reply = zero-le
+lent-within (Request.Path value) given reply = zero-le
+lent-within Request.Tick given reply = zero-le
+
 pub lent-room : (a : Request) (given : List ℕ) → length (lent (callOf a given)) ≤ replyRoom
-lent-room (Request.StartScan from count append time) given = zero-le
-lent-room (Request.Start job from count) given = zero-le
-lent-room (Request.Stop job) given = zero-le
-lent-room (Request.Abort job) given = zero-le
-lent-room (Request.GetDestination job) given = zero-le
-lent-room (Request.Fetch most) given = le-of-eq (length-replicate {A = ℕ} replyRoom 0)
-lent-room Request.GetState given = zero-le
-lent-room Request.GetSideInformation given = zero-le
-lent-room (Request.Load job) given = zero-le
-lent-room (Request.Eject job value) given = zero-le
-lent-room (Request.Reset job) given = zero-le
-lent-room (Request.SetFeederMode job mode) given = zero-le
-lent-room Request.GetFeederState given = zero-le
-lent-room Request.GetFeederMode given = zero-le
-lent-room Request.Bytes given = zero-le
-lent-room Request.SideEnded given = zero-le
-lent-room (Request.Tray value) given = zero-le
-lent-room (Request.Path value) given = zero-le
-lent-room Request.Tick given = zero-le
+lent-room a given = omega (arith, lent-within a given (replicate replyRoom 0), length-replicate {A = ℕ} replyRoom 0)

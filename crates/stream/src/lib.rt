@@ -60,12 +60,11 @@ pub fn answer(
     let next = after.next;
     let name = after.name;
     let answer = after.answer;
-    let number = line::number::number_of(answer);
-    let filled = line::put_line(out, at, kind, next, name, answer, reply);
+    let lined = line::put_line(out, at, kind, next, name, answer, reply);
     Turn {
         next,
-        number,
-        filled,
+        number: lined.number,
+        filled: lined.end,
     }
 }
 

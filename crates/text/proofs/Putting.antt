@@ -7,7 +7,8 @@ use mathlib.Core.List.{List, [], _∷_, _++_, append-assoc, append-nil}
 use native.Mathlib.Nat.{add-zero, suc-add, add-assoc, sub-zero, suc-sub-suc, suc-min-suc, zero-add, pow-suc}
 use native.Mathlib.Numerals.{add-one, sub-one}
 use native.Mathlib.Omega.{arith}
-use borrow.Author.Tests.{lt-ltb, le-ltb}
+use borrow.Rule.Slice.PartMut.{putMid}
+use borrow.Author.Tests.{lt-ltb, le-ltb, ltb-true, ltb-false}
 use lib.Dec.{ltb}
 use lib.ListN.{length, getD, set, take, drop, length-append, length-take, length-drop, length-set, take-append-drop, drop-of-length-le}
 use lib.Seq.{set-split, append-snoc, take-append-seam, drop-append-add, drop-drop, take-suc, take-all, take-nil, drop-nil, drop-at, length-take-le}
@@ -60,8 +61,9 @@ put-whole {o} {o₁} {t} {at} {r} h e f =
 pub put-one-fits : (o : List ℕ) (at b : ℕ) → at < length o → Puts o at (b ∷ []) (at + 1) (set o at b)
 put-one-fits o at b h = put-whole (omega arith) refl (rw (add-one, append-snoc) (set-split o at b h))
 
-pub put-one-full : (o : List ℕ) (at b : ℕ) → length o ≤ at → Puts o at (b ∷ []) at o
-put-one-full o at b h =
+-- where there is no room
+pub put-full : (o t : List ℕ) (at : ℕ) → length o ≤ at → Puts o at t at o
+put-full o t at h =
     let none : length o - at ≡ 0 = omega arith in
     record { behind = rw none (sym (add-zero at)); stands = rw none (sym (over-none o at)) }
 
@@ -135,21 +137,72 @@ more-digits m n h = simp (le-ltb n 10 h)
 pub digits-one : {o o₁ : List ℕ} {at r n : ℕ} → n < 10 → Puts o at ((48 + n) ∷ []) r o₁ → Puts o at (decimal n) r o₁
 digits-one {n = n} h p = moved p (sym (one-digit mostDigits n (omega arith) h))
 
--- the digits that are left go before those that stand at the end of the buffer
-pub record Filling (n : ℕ) (buffer : List ℕ) (from left : ℕ) : Type 0 where
-  pub so : digits from left ++ drop from buffer ≡ decimal n
-  pub long : length buffer ≡ mostDigits
+-- as many digits as a number has are enough for it
+record Exact (k n : ℕ) : Type 0 where
+  same : digits (length (digits k n)) n ≡ digits k n
+  fits : n < 10 ^ length (digits k n)
+  some : 1 ≤ length (digits k n)
+
+exact-one : (k n : ℕ) → n < 10 → Exact (suc k) n
+exact-one k n h =
+    let one = one-digit (suc k) n (omega arith) h in
+    record { same = rw one (one-digit 1 n (omega arith) h); fits = rw one (omega arith); some = rw one (omega arith) }
+
+exact-more : (k n : ℕ) → 9 < n → Exact k (n / 10) → Exact (suc k) n
+exact-more k n h x =
+    let all = more-digits k n h in
+    let size : length (digits (suc k) n) ≡ suc (length (digits k (n / 10))) = rw (all, length-append) (add-one _) in
+    record {
+      same =
+          rw size
+          (more-digits (length (digits k (n / 10))) n h ∙ ap (λ (t : List ℕ). t ++ (48 + n % 10) ∷ []) (x .same) ∙ sym all);
+      fits = rw (size, pow-suc) (omega (arith, x .fits));
+      some = rw size (omega arith);
+    }
+
+exact-by : (k n : ℕ) (b : Bool) → ltb n 10 ≡ b → Exact k (n / 10) → Exact (suc k) n
+exact-by k n true e x = exact-one k n (ltb-true n 10 e)
+exact-by k n false e x = exact-more k n (ltb-false n 10 e) x
+
+exact : (k n : ℕ) → 1 ≤ k → n < 10 ^ k → Exact k n
+exact zero n l h = absurd (omega arith)
+exact (suc zero) n l h = exact-one zero n (omega arith)
+exact (suc (suc k)) n l h =
+    let less : n / 10 < 10 ^ suc k = omega (arith, rw (pow-suc 10 (suc k)) at h) in
+    exact-by (suc k) n (ltb n 10) refl (exact (suc k) (n / 10) (omega arith) less)
+
+-- how many: from ten to the k on, and below ten times that, one more than k
+count : (most k n : ℕ) → k < most → 10 ^ k ≤ n → n < 10 ^ suc k → length (digits most n) ≡ suc k
+count zero k n l h g = absurd (omega arith)
+count (suc m) zero n l h g = rw (one-digit (suc m) n (omega arith) (omega arith))
+count (suc m) (suc k) n l h g =
+    let low = rw (pow-suc 10 k) at h in
+    let high = rw (pow-suc 10 (suc k), pow-suc 10 k) at g in
+    let rest = count m k (n / 10) (omega arith) (omega arith) (rw (pow-suc 10 k) (omega arith)) in
+    rw (more-digits m n (omega arith), length-append) (omega arith)
+
+pub wide-one : (n : ℕ) → n < 10 → 1 ≡ length (decimal n)
+wide-one n h = rw (one-digit mostDigits n (omega arith) h)
+
+pub wide : (k n : ℕ) → k < mostDigits → 10 ^ k ≤ n → n < 10 ^ suc k → suc k ≡ length (decimal n)
+wide k n l h g = sym (count mostDigits k n l h g)
+
+-- the digits that are left go before those that stand at the end of the part
+pub record Filling (n : ℕ) (part : List ℕ) (from left : ℕ) : Type 0 where
+  pub so : digits from left ++ drop from part ≡ decimal n
+  pub long : length part ≡ length (decimal n)
   pub fits : left < 10 ^ from
   pub low : 1 ≤ from
-  pub high : from ≤ mostDigits
+  pub high : from ≤ length part
 
-pub filling : (n : ℕ) (buffer : List ℕ) → length buffer ≡ mostDigits → n < 2 ^ 64 → Filling n buffer mostDigits n
-filling n buffer l h =
+pub filling : (n : ℕ) (part : List ℕ) → length part ≡ length (decimal n) → n < 2 ^ 64 → Filling n part (length part) n
+filling n part l h =
+    let x = exact mostDigits n (omega arith) (omega arith) in
     record {
-      so = rw (drop-of-length-le buffer {i = mostDigits} (omega arith)) (append-nil (decimal n));
+      so = rw (drop-of-length-le part {i = length part} (omega arith), append-nil, l) (x .same);
       long = l;
-      fits = omega arith;
-      low = omega arith;
+      fits = rw l (x .fits);
+      low = omega (arith, x .some);
       high = omega arith;
     }
 
@@ -157,37 +210,42 @@ filling n buffer l h =
 set-front : (l : List ℕ) (i b : ℕ) → i < length l → drop i (set l i b) ≡ b ∷ drop (suc i) l
 set-front l i b h = rw (set-split l i b h) (drop-at (take i l) (b ∷ drop (suc i) l) i (length-take-le i l (omega arith)))
 
-pub filling-again : (n from left : ℕ) (buffer : List ℕ) → Filling n buffer from left → 9 < left
-    → Filling n (set buffer (from - 1) (48 + left % 10)) (from - 1) (left / 10)
-filling-again n zero left buffer f h = absurd (omega (arith, f .low))
-filling-again n (suc zero) left buffer f h = absurd (omega (arith, f .fits))
-filling-again n (suc (suc from)) left buffer f h =
+pub filling-again : (n from left : ℕ) (part : List ℕ) → Filling n part from left → 9 < left
+    → Filling n (set part (from - 1) (48 + left % 10)) (from - 1) (left / 10)
+filling-again n zero left part f h = absurd (omega (arith, f .low))
+filling-again n (suc zero) left part f h = absurd (omega (arith, f .fits))
+filling-again n (suc (suc from)) left part f h =
     let i = suc from in
-    let placed = set-front buffer i (48 + left % 10) (omega (arith, f .long, f .high)) in
+    let placed = set-front part i (48 + left % 10) (omega (arith, f .high)) in
     let fewer : left / 10 < 10 ^ i = omega (arith, rw (pow-suc 10 i) at (f .fits)) in
     rw sub-one
     (record {
       so =
           rw placed
-          (sym (append-assoc (digits i (left / 10)) ((48 + left % 10) ∷ []) (drop (suc i) buffer))
-          ∙ ap (λ (t : List ℕ). t ++ drop (suc i) buffer) (sym (more-digits i left h))
+          (sym (append-assoc (digits i (left / 10)) ((48 + left % 10) ∷ []) (drop (suc i) part))
+          ∙ ap (λ (t : List ℕ). t ++ drop (suc i) part) (sym (more-digits i left h))
           ∙ f .so);
-      long = length-set buffer i (48 + left % 10) ∙ f .long;
+      long = length-set part i (48 + left % 10) ∙ f .long;
       fits = fewer;
       low = omega arith;
-      high = omega (arith, f .high);
+      high = simp length-set (omega (arith, f .high));
     })
 
-pub filled : (n from left : ℕ) (buffer : List ℕ) → Filling n buffer from left → left ≤ 9 → drop (from - 1) (set buffer (from - 1) (48 + left)) ≡ decimal n
-filled n zero left buffer f h = absurd (omega (arith, f .low))
-filled n (suc from) left buffer f h =
-    rw (sub-one, set-front buffer from (48 + left) (omega (arith, f .long, f .high)))
-    (ap (λ (t : List ℕ). t ++ drop (suc from) buffer) (sym (one-digit (suc from) left (omega arith) (omega arith))) ∙ f .so)
+-- the last digit that is left is the first of the part
+first-left : (n from left : ℕ) (part : List ℕ) → Filling n part from left → left ≤ 9 → from ≡ 1
+first-left n from left part f h =
+    let one = rw (one-digit from left (f .low) (omega arith)) at (f .so) in
+    omega (arith, simp length-drop at (ap length one), f .long, f .high, f .low)
 
--- and the buffer from there on is the number
-pub digits-behind : (n from : ℕ) (buffer : List ℕ) → length buffer ≡ mostDigits → drop from buffer ≡ decimal n
-    → take (mostDigits - from) (drop from buffer) ≡ decimal n
-digits-behind n from buffer l e = take-all (mostDigits - from) (drop from buffer) (omega (arith, length-drop from buffer)) ∙ e
+pub filled : (n from left : ℕ) (part : List ℕ) → Filling n part from left → left ≤ 9 → set part 0 (48 + left) ≡ decimal n
+filled n from left part f h =
+    let one = first-left n from left part f h in
+    let first = set-front part 0 (48 + left) (omega (arith, f .high)) in
+    first ∙ sym (ap (λ (t : List ℕ). t ++ drop 1 part) (one-digit 1 left (omega arith) (omega arith))) ∙ (rw one at (f .so))
+
+-- the front of a buffer, where the part was put back
+pub front : (part rest t : List ℕ) (w : ℕ) → part ≡ t → w ≡ length t → take w (part ++ rest) ≡ t
+front part rest t w e l = rw (l ∙ sym (ap length e)) (take-append-seam part rest ∙ e)
 
 either : (b : Bool) (t u : List ℕ) (n : ℕ) → length t ≤ n → length u ≤ n → length (cond b t u) ≤ n
 either true t u n h k = h
@@ -201,7 +259,28 @@ length-digits (suc most) n =
     let all = length-append (digits most (n / 10)) ((48 + n % 10) ∷ []) in
     either (ltb n 10) _ _ (suc most) (omega arith) (omega arith)
 
+-- ---- a part of the buffer that is as long as the text
+over-all : (o t : List ℕ) → length t ≡ length o → over o 0 t ≡ t
+over-all o t e = rw (zero-add (length t), drop-of-length-le o {i = length t} (omega arith)) (append-nil t)
+
+part-filled : {o o₁ t : List ℕ} {r : ℕ} → length t ≡ length o → Puts o 0 t r o₁ → o₁ ≡ t
+part-filled {o} {o₁} {t} e p = whole-stands (omega arith) p ∙ over-all o t e
+
+-- the part put back
+pub put-part : (o part t : List ℕ) (at end : ℕ) → part ≡ t → end ≡ at + length t → end ≤ length o → Puts o at t end (putMid at (end - at) o part)
+put-part o part t at end f e h =
+    let size : end - at ≡ length t = omega arith in
+    put-whole (omega arith) e (rw (f, size, drop-drop) (sym (append-assoc (take at o) t (drop (at + length t) o))))
+
 -- ---- hex
+-- the sum has the seven signs between 9 and A in it from ten on
+pub hex-sum : (n : ℕ) → n < 16 → 48 + n + (n + 6) / 16 * 7 ≡ hexDigit n
+hex-sum n h = by-test (ltb n 10) refl
+  where
+    by-test : (b : Bool) → ltb n 10 ≡ b → 48 + n + (n + 6) / 16 * 7 ≡ cond b (48 + n) (55 + n)
+    by-test true e = let l = ltb-true n 10 e in omega arith
+    by-test false e = let l = ltb-false n 10 e in omega arith
+
 pub hex-two : (o o₁ o₂ : List ℕ) (at r q b x y : ℕ) → x ≡ hexDigit (b / 16) → Puts o at (x ∷ []) r o₁ → y ≡ hexDigit (b % 16)
     → Puts o₁ r (y ∷ []) q o₂ → Puts o at (hexByte b) q o₂
 hex-two o o₁ o₂ at r q b x y e p f k = moved (then p k) (rw (e, f))
@@ -210,6 +289,11 @@ hexes-append : (s t : List ℕ) → hexes (s ++ t) ≡ hexes s ++ hexes t
 unfolding hexes
 hexes-append [] t = refl
 hexes-append (b ∷ s) t = ap (λ (z : List ℕ). hexByte b ++ z) (hexes-append s t)
+
+pub length-hexes : (bs : List ℕ) → length (hexes bs) ≡ 2 * length bs
+unfolding hexes
+length-hexes [] = refl
+length-hexes (b ∷ bs) = let h = length-hexes bs in omega arith
 
 pub hexes-none : (o s : List ℕ) (at : ℕ) → Puts o at (hexes (take 0 s)) at o
 unfolding hexes
@@ -227,7 +311,15 @@ hexes-more o o₁ o₂ s at i r q h p k = moved (then p k) (more-hexes s i h)
 pub hexes-all : (o o₁ s : List ℕ) (at i r : ℕ) → length s ≤ i → Puts o at (hexes (take i s)) r o₁ → Puts o at (hexes s) r o₁
 hexes-all o o₁ s at i r h p = moved p (ap hexes (take-all i s h))
 
-pub length-hexes : (bs : List ℕ) → length (hexes bs) ≡ 2 * length bs
-unfolding hexes
-length-hexes [] = refl
-length-hexes (b ∷ bs) = let h = length-hexes bs in omega arith
+-- two digits more, in a part with room for all of them
+pub fill-more : (o o₁ s : List ℕ) (i x y : ℕ) → length o ≡ 2 * length s → i < length s → x ≡ hexDigit (getD s i 0 / 16)
+    → y ≡ hexDigit (getD s i 0 % 16) → Puts o 0 (hexes (take i s)) (2 * i) o₁
+    → Puts o 0 (hexes (take (i + 1) s)) (2 * (i + 1)) (set (set o₁ (2 * i) x) (2 * i + 1) y)
+fill-more o o₁ s i x y l h e f p =
+    let first = put-one-fits o₁ (2 * i) x (omega (arith, size p)) in
+    let second = put-one-fits (set o₁ (2 * i) x) (2 * i + 1) y (simp length-set (omega (arith, size p))) in
+    let next : 2 * i + 1 + 1 ≡ 2 * (i + 1) = omega arith in
+    rw next at (hexes-more _ _ _ s 0 i _ _ h p (hex-two _ _ _ _ _ _ (getD s i 0) x y e first f second))
+
+pub fill-all : (o o₁ s : List ℕ) (i : ℕ) → length o ≡ 2 * length s → length s ≤ i → Puts o 0 (hexes (take i s)) (2 * i) o₁ → o₁ ≡ hexes s
+fill-all o o₁ s i l h p = part-filled (omega (arith, length-hexes s)) (hexes-all o o₁ s 0 i (2 * i) h p)

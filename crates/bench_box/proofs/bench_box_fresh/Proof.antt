@@ -1,5 +1,6 @@
 -- A fresh record's numbers.
-use mathlib.Core.Path.{refl}
+use mathlib.Core.Path.{ap, _∙_}
+use Rattle.stored.specs.Stored.{kept}
 use borrow.Author.Needs.{needs}
 use Rattle.bench_box.proofs.bench_box_fresh.Statement.{statement}
 use Rattle.bench_box.proofs.bench_box_fresh.Tie as tie
@@ -15,7 +16,7 @@ keep-requires : tie.Need-keep-requires
 keep-requires c κs = search needs
 
 returns : tie.Need-returns
-returns c = rw (c .keep .ensures, c .before .fresh .ensures) refl
+returns c = (c .keep .ensures .0 ∙ ap kept (c .before .fresh .ensures), c .keep .ensures .1)
 
 pub bench-box-fresh-spec : {M : Type 1} → statement M
 bench-box-fresh-spec = tie.close (tie.spec fresh-requires keep-requires returns)

@@ -32,7 +32,7 @@ returns : tie.Need-returns
 returns c = let told = c .before .before .before in
     let a = told .before .before .before .before .before .before .before .before .args in
     let e = sym (told .before .before .lent .ensures) ∙ told .enum-told .given .1 in
-    rw (c .tell .ensures, c .before .nothing-done .ensures) (sym (ap (λ (l : Loading). performedBy l (a .words .now) (a .ring .now) (a .reply .now) (a .input .now) (a .offset) (a .line .now)) e))
+    (rw (c .tell .ensures, c .before .nothing-done .ensures) (sym (ap (λ (l : Loading). performedBy l (a .words .now) (a .ring .now) (a .reply .now) (a .input .now) (a .offset) (a .line .now)) e)), λ f. f)
 
 perform-requires : tie.Need-perform-requires
 perform-requires c κs = search needs
@@ -56,8 +56,10 @@ returns-2 : tie.Need-returns-2
 returns-2 c = let one = c .before .before .before .before .before .before .before .before .before .before .before .before in
     let told = one .before .before .before .before .before in
     let a = told .before .before .before .before .before .before .before .before .args in
-    let e = sym (told .before .before .lent .ensures) ∙ told .loading .given .1 in
-    rw (c .tell2 .ensures, c .before .before .before .keep .ensures) (one .perform .ensures ∙ sym (ap (λ (l : Loading). performedBy l (a .words .now) (a .ring .now) (a .reply .now) (a .input .now) (a .offset) (a .line .now)) e))
+    let e = sym (told .before .before .lent .ensures) ∙ told .loading .given .1 in (
+      rw (c .tell2 .ensures, c .before .before .before .keep .ensures .0) (one .perform .ensures ∙ sym (ap (λ (l : Loading). performedBy l (a .words .now) (a .ring .now) (a .reply .now) (a .input .now) (a .offset) (a .line .now)) e)),
+      λ f. c .before .before .before .keep .ensures .1,
+    )
 
 pub bench-box-perform-spec : {M : Type 1} → statement M
 bench-box-perform-spec =

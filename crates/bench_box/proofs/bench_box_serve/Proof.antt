@@ -36,7 +36,7 @@ returns : tie.Need-returns
 returns c = let told = c .before .before .before in
     let a = told .before .before .before .before .before .before .before .args in
     let e = sym (told .before .before .lent .ensures) ∙ told .enum-told .given .1 in
-    rw (c .tell .ensures, c .before .nothing-done .ensures) (sym (ap (λ (l : Loading). servedBy l (a .words .now) (a .ring .now) (a .input .now) (a .offset) (a .last) (a .lines .now)) e))
+    (rw (c .tell .ensures, c .before .nothing-done .ensures) (sym (ap (λ (l : Loading). servedBy l (a .words .now) (a .ring .now) (a .input .now) (a .offset) (a .last) (a .lines .now)) e)), λ f. f)
 
 serve-requires : tie.Need-serve-requires
 serve-requires c κs = search needs
@@ -60,10 +60,12 @@ returns-2 : tie.Need-returns-2
 returns-2 c = let serve = c .before .before .before .before .before .before .before .before .before .before in
     let told = serve .before .before .before .before in
     let a = told .before .before .before .before .before .before .before .args in
-    let e = sym (told .before .before .lent .ensures) ∙ told .loading .given .1 in
-    came-window _ _ _ _ _ _ _ _ _ _ _ (serve .serve .ensures .0) (c .before .before .before .keep .ensures)
-    (c .tell2 .ensures ∙ ap (λ (n : ℕ). serve .serve .result .at ∷ serve .serve .result .filled ∷ n ∷ []) (c .before .before .flag .ensures))
-    ∙ sym (ap (λ (l : Loading). servedBy l (a .words .now) (a .ring .now) (a .input .now) (a .offset) (a .last) (a .lines .now)) e)
+    let e = sym (told .before .before .lent .ensures) ∙ told .loading .given .1 in (
+      came-window _ _ _ _ _ _ _ _ _ _ _ (serve .serve .ensures .0) (c .before .before .before .keep .ensures .0)
+          (c .tell2 .ensures ∙ ap (λ (n : ℕ). serve .serve .result .at ∷ serve .serve .result .filled ∷ n ∷ []) (c .before .before .flag .ensures))
+          ∙ sym (ap (λ (l : Loading). servedBy l (a .words .now) (a .ring .now) (a .input .now) (a .offset) (a .last) (a .lines .now)) e),
+      λ f. c .before .before .before .keep .ensures .1,
+    )
 
 pub bench-box-serve-spec : {M : Type 1} → statement M
 bench-box-serve-spec =

@@ -23,7 +23,7 @@ enum-told c = search needs
 returns : tie.Need-returns
 returns c = let a = c .before .before .before .before .args in
     let e = sym (c .before .before .load .ensures) ∙ c .enum-told .given .1 in
-    (sym (ap (tickNumber (a .length)) e), sym (ap (tickWords (a .length) (a .words .now)) e))
+    (sym (ap (tickNumber (a .length)) e), (sym (ap (tickWords (a .length) (a .words .now)) e), λ f. f))
 
 second-requires : tie.Need-second-requires
 second-requires c κs = search needs
@@ -36,7 +36,7 @@ returns-2 c = let told = c .before .before .before .before .before in
     let a = told .before .before .before .before .args in
     let e = sym (told .before .before .load .ensures) ∙ told .loading .given .1 in
     let s = c .before .before .before .second .ensures in
-    (s .0 ∙ sym (ap (tickNumber (a .length)) e), c .keep .ensures ∙ ap kept (s .1) ∙ sym (ap (tickWords (a .length) (a .words .now)) e))
+    (s .0 ∙ sym (ap (tickNumber (a .length)) e), (c .keep .ensures .0 ∙ ap kept (s .1) ∙ sym (ap (tickWords (a .length) (a .words .now)) e), λ f. c .keep .ensures .1))
 
 pub bench-box-tick-spec : {M : Type 1} → statement M
 bench-box-tick-spec =

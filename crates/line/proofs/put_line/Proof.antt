@@ -1,6 +1,7 @@
 -- `line::put_line`: one part behind the other, and the parts in a row are the line (`Lines`).
+use mathlib.Core.Path.{_∙_}
 use borrow.Author.Needs.{needs}
-use Rattle.line.proofs.Lines.{line-put}
+use Rattle.line.proofs.Lines.{line-put, same-number}
 use Rattle.line.proofs.put_line.Statement.{statement}
 use Rattle.line.proofs.put_line.Tie as tie
 
@@ -29,9 +30,11 @@ returns c =
     let counts = extra .before .before .before .before in
     let head = counts .before .before .before .before in
     let number = head .before .before in
-    let a = number .before .before .before .before .before .args in
-    line-put (a .kind) _ (a .name) (a .reply .now) (a .answer) (a .r) (number .number-of .ensures) (head .put-head .ensures) (counts .put-counts .ensures)
-    (extra .put-extra .ensures) (end .put-byte .ensures)
+    let a = number .before .before .before .before .before .args in (
+      line-put (a .kind) _ (a .name) (a .reply .now) (a .answer) (a .r) (number .number-of .ensures) (head .put-head .ensures)
+          (counts .put-counts .ensures) (extra .put-extra .ensures) (end .put-byte .ensures),
+      number .number-of .ensures ∙ same-number (a .name) (a .reply .now) (a .answer),
+    )
 
 pub put-line-spec : {M : Type 1} → statement M
 put-line-spec =

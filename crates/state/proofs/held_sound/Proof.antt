@@ -1,16 +1,21 @@
--- `state::held_sound`: the callees' equations, one after the other.
+-- `state::held_sound`: in Idle and outside it, the tests that are left.
 use borrow.Author.Needs.{needs}
+use mathlib.Core.Path.{sym, _∙_}
+use mathlib.Core.Bool.{and-true}
 use Rattle.state.proofs.held_sound.Statement.{statement}
 use Rattle.state.proofs.held_sound.Tie as tie
 
 is-idle-requires : tie.Need-is-idle-requires
 is-idle-requires c κs = search needs
 
+returns : tie.Need-returns
+returns c = simp (sym (c .before .is-idle .ensures) ∙ c .if1 .taken, and-true)
+
 limit-of-requires : tie.Need-limit-of-requires
 limit-of-requires c κs = search needs
 
-returns : tie.Need-returns
-returns c = rw (c .before .before .before .before .before .limit-of .ensures, c .before .before .before .before .before .before .is-idle .ensures)
+returns-2 : tie.Need-returns-2
+returns-2 c = rw (c .before .before .limit-of .ensures, sym (c .before .before .before .before .is-idle .ensures) ∙ c .before .before .before .if1 .left)
 
 pub held-sound-spec : {M : Type 1} → statement M
-held-sound-spec = tie.close (tie.spec is-idle-requires limit-of-requires returns)
+held-sound-spec = tie.close (tie.spec is-idle-requires returns limit-of-requires returns-2)

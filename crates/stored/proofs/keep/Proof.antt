@@ -1,6 +1,5 @@
 -- Number by number.
-use Rattle.stored.specs.Stored.{kept}
-use mathlib.Core.Path.{refl}
+use Rattle.stored.proofs.Back.{kept-each}
 use borrow.Author.Needs.{needs}
 use Rattle.stored.proofs.keep.Statement.{statement}
 use Rattle.stored.proofs.keep.Tie as tie
@@ -69,28 +68,26 @@ of-place-requires-2 : tie.Need-of-place-requires-2
 of-place-requires-2 c κs = search needs
 
 returns : tie.Need-returns
-unfolding kept
-returns c = rw (
-  c .before .of-place2 .ensures,
-  c .before .before .of-place .ensures,
-  c .before .before .before .of-byte5 .ensures,
-  c .before .before .before .before .of-byte4 .ensures,
-  c .before .before .before .before .before .of-byte3 .ensures,
-  c .before .before .before .before .before .before .of-long4 .ensures,
-  c .before .before .before .before .before .before .before .of-word3 .ensures,
-  c .before .before .before .before .before .before .before .before .of-long3 .ensures,
-  c .before .before .before .before .before .before .before .before .before .of-word2 .ensures,
-  c .before .before .before .before .before .before .before .before .before .before .of-word .ensures,
-  c .before .before .before .before .before .before .before .before .before .before .before .of-byte2 .ensures,
-  c .before .before .before .before .before .before .before .before .before .before .before .before .of-byte .ensures,
-  c .before .before .before .before .before .before .before .before .before .before .before .before .before .of-long2 .ensures,
-  c .before .before .before .before .before .before .before .before .before .before .before .before .before .before .of-long .ensures,
-  c .before .before .before .before .before .before .before .before .before .before .before .before .before .before .before .failure-number2 .ensures,
-  c .before .before .before .before .before .before .before .before .before .before .before .before .before .before .before .before .feed-number .ensures,
-  c .before .before .before .before .before .before .before .before .before .before .before .before .before .before .before .before .before .failure-number .ensures,
-  c .before .before .before .before .before .before .before .before .before .before .before .before .before .before .before .before .before .before .scan-number .ensures,
-)
-    refl
+returns c =
+    kept-each _
+    (c .before .before .before .before .before .before .before .before .before .before .before .before .before .before .before .before .before .before .scan-number .ensures)
+    (c .before .before .before .before .before .before .before .before .before .before .before .before .before .before .before .before .before .failure-number .ensures)
+    (c .before .before .before .before .before .before .before .before .before .before .before .before .before .before .before .before .feed-number .ensures)
+    (c .before .before .before .before .before .before .before .before .before .before .before .before .before .before .before .failure-number2 .ensures)
+    (c .before .before .before .before .before .before .before .before .before .before .before .before .before .before .of-long .ensures)
+    (c .before .before .before .before .before .before .before .before .before .before .before .before .before .of-long2 .ensures)
+    (c .before .before .before .before .before .before .before .before .before .before .before .before .of-byte .ensures)
+    (c .before .before .before .before .before .before .before .before .before .before .before .of-byte2 .ensures)
+    (c .before .before .before .before .before .before .before .before .before .before .of-word .ensures)
+    (c .before .before .before .before .before .before .before .before .before .of-word2 .ensures)
+    (c .before .before .before .before .before .before .before .before .of-long3 .ensures)
+    (c .before .before .before .before .before .before .before .of-word3 .ensures)
+    (c .before .before .before .before .before .before .of-long4 .ensures)
+    (c .before .before .before .before .before .of-byte3 .ensures)
+    (c .before .before .before .before .of-byte4 .ensures)
+    (c .before .before .before .of-byte5 .ensures)
+    (c .before .before .of-place .ensures)
+    (c .before .of-place2 .ensures)
 
 pub keep-spec : {M : Type 1} → statement M
 keep-spec =

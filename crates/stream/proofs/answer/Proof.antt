@@ -9,14 +9,10 @@ use Rattle.stream.proofs.answer.Tie as tie
 use Rattle.stream.proofs.answer.Reads as reads
 use Rattle.stream.proofs.answer.Lts as lts
 use Rattle.calls.proofs.perform.Reads as perform-reads
-use Rattle.line.proofs.number.number_of.Reads as number-of-reads
 use Rattle.line.proofs.put_line.Reads as put-line-reads
 
 perform-requires : tie.Need-perform-requires
 perform-requires c κs = search needs
-
-number-of-requires : tie.Need-number-of-requires
-number-of-requires c κs = search needs
 
 put-line-requires : tie.Need-put-line-requires
 put-line-requires c κs = search needs
@@ -33,20 +29,20 @@ same-length-3 c = search needs
 returns : tie.Need-returns
 returns c =
     let lined = c .before .before in
-    let numbered = lined .before .before .before in
-    let p = numbered .before .before .before .before .before .before .before .perform in
-    let a = numbered .before .before .before .before .before .before .before .before .before .before .before .before .before .before .args in
+    let before = lined .before .before .before .before .before .before .before .before .before in
+    let p = before .perform in
+    let a = before .before .before .before .before .before .before .before .args in
     let reply = p .last .1 .1 .1 .1 .0 in
     let call = lent (asked (a .request) (a .given .now) reply) in
-    let box = stateOf (a .r) (a .ring .now) in (
-      answered-state box (a .request) (a .given .now) (a .reply .now) (p .result .name) reply (p .last .1 .0) call (p .result .answer)
-          (p .result .next) (p .ensures .0),
+    let box = stateOf (a .r) (a .ring .now) in
+    let e = p .ensures .0 in (
+      answered-state box (a .request) (a .given .now) (a .reply .now) (p .result .name) reply (p .last .1 .0) call (p .result .answer) (p .result .next) e,
       (
         answered-line box (a .request) (a .given .now) (a .reply .now) (p .result .name) reply (p .last .1 .0) call (p .result .answer)
-            (p .result .next) (p .ensures .0) (a .kind) (lined .put-line .ensures),
+            (p .result .next) e (a .kind) (lined .put-line .ensures .0),
         (
           answered-number box (a .request) (a .given .now) (a .reply .now) (p .result .name) reply (p .last .1 .0) call (p .result .answer)
-              (p .result .next) (p .ensures .0) (numbered .number-of .ensures),
+              (p .result .next) e (lined .put-line .ensures .1),
           p .ensures .1 .0,
         ),
       ),
@@ -55,4 +51,4 @@ returns c =
 pub answer-spec : {M : Type 1} → statement M
 answer-spec =
     tie.close
-    (tie.spec perform-requires number-of-requires put-line-requires same-length same-length-2 same-length-3 returns)
+    (tie.spec perform-requires put-line-requires same-length same-length-2 same-length-3 returns)

@@ -1,4 +1,4 @@
--- `text::fill_digits`: in each turn one digit more stands at the end of the buffer, and the number left has one less.
+-- `text::fill_digits`: in each turn one digit more stands at the end of the part, and the number left has one less.
 use mathlib.Core.Path.{sym, _∙_}
 use borrow.Author.Needs.{needs}
 use lib.ListN.{length-set}
@@ -7,10 +7,10 @@ use Rattle.text.proofs.fill_digits.Statement.{statement}
 use Rattle.text.proofs.fill_digits.Tie as tie
 
 abbrev Inv-loop : tie.InvT-loop
-Inv-loop buffer₀ n from₀ left₀ buffer from left = Filling n buffer from left
+Inv-loop part₀ n from₀ left₀ part from left = Filling n part from left
 
 abbrev μ-loop : tie.MeasureT-loop
-μ-loop buffer₀ n from₀ left₀ buffer from left = left
+μ-loop part₀ n from₀ left₀ part from left = left
 
 loop-holds : tie.Need-loop-holds Inv-loop μ-loop
 loop-holds c = filling _ _ (c .pre) (c .fits .n .fits)
@@ -18,14 +18,14 @@ loop-holds c = filling _ _ (c .pre) (c .fits .n .fits)
 sub-from : tie.Need-sub-from Inv-loop μ-loop
 sub-from c = search needs
 
-cast-buffer : tie.Need-cast-buffer Inv-loop μ-loop
-cast-buffer c = search needs
+cast-part : tie.Need-cast-part Inv-loop μ-loop
+cast-part c = search needs
 
-add-buffer : tie.Need-add-buffer Inv-loop μ-loop
-add-buffer c = search needs
+add-part : tie.Need-add-part Inv-loop μ-loop
+add-part c = search needs
 
-slice-write-buffer : tie.Need-slice-write-buffer Inv-loop μ-loop
-slice-write-buffer c = search needs
+slice-write-part : tie.Need-slice-write-part Inv-loop μ-loop
+slice-write-part c = search needs
 
 loop-less : tie.Need-loop-less Inv-loop μ-loop
 loop-less c = search needs
@@ -33,23 +33,20 @@ loop-less c = search needs
 loop-again : tie.Need-loop-again Inv-loop μ-loop
 loop-again c = search (needs, filling-again)
 
-sub-from-2 : tie.Need-sub-from-2 Inv-loop μ-loop
-sub-from-2 c = search needs
+cast-part-2 : tie.Need-cast-part-2 Inv-loop μ-loop
+cast-part-2 c = search needs
 
-cast-buffer-2 : tie.Need-cast-buffer-2 Inv-loop μ-loop
-cast-buffer-2 c = search needs
+add-part-2 : tie.Need-add-part-2 Inv-loop μ-loop
+add-part-2 c = search needs
 
-add-buffer-2 : tie.Need-add-buffer-2 Inv-loop μ-loop
-add-buffer-2 c = search needs
-
-slice-write-buffer-2 : tie.Need-slice-write-buffer-2 Inv-loop μ-loop
-slice-write-buffer-2 c = search needs
+slice-write-part-2 : tie.Need-slice-write-part-2 Inv-loop μ-loop
+slice-write-part-2 c = search needs
 
 same-length : tie.Need-same-length Inv-loop μ-loop
 same-length c = simp length-set (c .before .loop .inv .long ∙ sym (c .before .before .pre))
 
 returns : tie.Need-returns Inv-loop μ-loop
-returns c = (search needs, search (needs, filled))
+returns c = search (needs, filled)
 
 pub fill-digits-spec : {M : Type 1} → statement M
 fill-digits-spec =
@@ -59,14 +56,13 @@ fill-digits-spec =
     μ-loop
     loop-holds
     sub-from
-    cast-buffer
-    add-buffer
-    slice-write-buffer
+    cast-part
+    add-part
+    slice-write-part
     loop-less
     loop-again
-    sub-from-2
-    cast-buffer-2
-    add-buffer-2
-    slice-write-buffer-2
+    cast-part-2
+    add-part-2
+    slice-write-part-2
     same-length
     returns)

@@ -1,6 +1,6 @@
--- `text::hex_digit`: each arm is one of the definition's test.
-use borrow.Author.Tests.{lt-ltb, le-ltb}
+-- `text::hex_digit`: the sum is the definition's arm on either side of ten.
 use borrow.Author.Needs.{needs}
+use Rattle.text.proofs.Putting.{hex-sum}
 use Rattle.text.proofs.hex_digit.Statement.{statement}
 use Rattle.text.proofs.hex_digit.Tie as tie
 
@@ -10,11 +10,14 @@ add-result c = search needs
 add-result-2 : tie.Need-add-result-2
 add-result-2 c = search needs
 
-returns : tie.Need-returns
-returns c = simp (lt-ltb _ _ (c .if1 .taken))
+mul-result : tie.Need-mul-result
+mul-result c = search needs
 
-returns-2 : tie.Need-returns-2
-returns-2 c = simp (le-ltb _ _ (c .if1 .left))
+add-result-3 : tie.Need-add-result-3
+add-result-3 c = search needs
+
+returns : tie.Need-returns
+returns c = hex-sum _ (c .pre)
 
 pub hex-digit-spec : {M : Type 1} → statement M
-hex-digit-spec = tie.close (tie.spec add-result add-result-2 returns returns-2)
+hex-digit-spec = tie.close (tie.spec add-result add-result-2 mul-result add-result-3 returns)

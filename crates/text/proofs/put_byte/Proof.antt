@@ -1,6 +1,6 @@
 -- `text::put_byte`: one byte where there is room, none where there is not.
 use borrow.Author.Needs.{needs}
-use Rattle.text.proofs.Putting.{put-one-fits, put-one-full}
+use Rattle.text.proofs.Putting.{put-one-fits, put-full}
 use Rattle.text.proofs.put_byte.Statement.{statement}
 use Rattle.text.proofs.put_byte.Tie as tie
 
@@ -17,7 +17,7 @@ returns : tie.Need-returns
 returns c = put-one-fits _ _ _ (c .if1 .taken)
 
 returns-2 : tie.Need-returns-2
-returns-2 c = put-one-full _ _ _ (c .if1 .left)
+returns-2 c = put-full _ _ _ (c .if1 .left)
 
 pub put-byte-spec : {M : Type 1} → statement M
 put-byte-spec = tie.close (tie.spec slice-write-out add-result same-length returns returns-2)

@@ -1,6 +1,7 @@
--- `text::put_decimal`: one digit, or those that were filled in.
+-- `text::put_decimal`: one digit, none where there is no room, those for which there is room, or all of them in a part as long as they are.
+use native.Mathlib.Omega.{arith}
 use borrow.Author.Needs.{needs}
-use Rattle.text.proofs.Putting.{moved, digits-one, digits-behind}
+use Rattle.text.proofs.Putting.{put-full, put-part, digits-one}
 use Rattle.text.proofs.put_decimal.Statement.{statement}
 use Rattle.text.proofs.put_decimal.Tie as tie
 
@@ -21,32 +22,46 @@ returns c =
     let put = c .before .before in
     digits-one (put .before .before .if1 .taken) (put .put-byte .ensures)
 
-slice-aggregate-fill-digits : tie.Need-slice-aggregate-fill-digits
-slice-aggregate-fill-digits c = search needs
+returns-2 : tie.Need-returns-2
+returns-2 c = put-full _ _ _ (c .if2 .taken)
 
-fill-digits-requires : tie.Need-fill-digits-requires
-fill-digits-requires c κs = search needs
+width-requires : tie.Need-width-requires
+width-requires c κs = search needs
 
-sub-put-bytes : tie.Need-sub-put-bytes
-sub-put-bytes c = search needs
+sub-if3 : tie.Need-sub-if3
+sub-if3 c = search needs
 
-part-put-bytes-start : tie.Need-part-put-bytes-start
-part-put-bytes-start c = search needs
-
-part-put-bytes-end : tie.Need-part-put-bytes-end
-part-put-bytes-end c = search needs
-
-put-bytes-requires : tie.Need-put-bytes-requires
-put-bytes-requires c κs = search needs
+cut-decimal-requires : tie.Need-cut-decimal-requires
+cut-decimal-requires c κs = search needs
 
 same-length-2 : tie.Need-same-length-2
 same-length-2 c = search needs
 
-returns-2 : tie.Need-returns-2
-returns-2 c =
-    let put = c .before .before in
-    let filled = put .before .before .before .before .before .fill-digits in
-    moved (put .put-bytes .ensures) (digits-behind _ (filled .result) (filled .last .0) (filled .kept .0) (filled .ensures .1))
+returns-3 : tie.Need-returns-3
+returns-3 c = search needs
+
+add-end : tie.Need-add-end
+add-end c = search needs
+
+sub-fill-digits : tie.Need-sub-fill-digits
+sub-fill-digits c = search needs
+
+part-fill-digits-start : tie.Need-part-fill-digits-start
+part-fill-digits-start c = search needs
+
+part-fill-digits-end : tie.Need-part-fill-digits-end
+part-fill-digits-end c = search needs
+
+fill-digits-requires : tie.Need-fill-digits-requires
+fill-digits-requires c κs = search needs
+
+same-length-3 : tie.Need-same-length-3
+same-length-3 c = search needs
+
+returns-4 : tie.Need-returns-4
+returns-4 c =
+    let many = c .before .before .before .before .before .width .ensures in
+    put-part _ _ _ _ _ (c .before .before .fill-digits .ensures) (omega arith) (omega arith)
 
 pub put-decimal-spec : {M : Type 1} → statement M
 put-decimal-spec =
@@ -57,11 +72,16 @@ put-decimal-spec =
     put-byte-requires
     same-length
     returns
-    slice-aggregate-fill-digits
-    fill-digits-requires
-    sub-put-bytes
-    part-put-bytes-start
-    part-put-bytes-end
-    put-bytes-requires
+    returns-2
+    width-requires
+    sub-if3
+    cut-decimal-requires
     same-length-2
-    returns-2)
+    returns-3
+    add-end
+    sub-fill-digits
+    part-fill-digits-start
+    part-fill-digits-end
+    fill-digits-requires
+    same-length-3
+    returns-4)

@@ -1,54 +1,65 @@
--- `text::put_hexes`: after i bytes their digits stand, and `next` is the place behind them.
-use Prim.Native.Nat.{_-_, _≤_}
+-- `text::put_hexes`: none where there is no room, those for which there is room, or all of them in a part as long as they are.
+use native.Mathlib.Omega.{arith}
 use borrow.Author.Needs.{needs}
-use lib.ListN.{length, take}
-use Rattle.text.specs.Put.{Puts}
-use Rattle.text.specs.Digits.{hexes}
-use Rattle.text.proofs.Putting.{size, hexes-none, hexes-more, hexes-all}
+use Rattle.text.proofs.Putting.{put-full, put-part, length-hexes}
 use Rattle.text.proofs.put_hexes.Statement.{statement}
 use Rattle.text.proofs.put_hexes.Tie as tie
 
-abbrev Inv-loop : tie.InvT-loop
-Inv-loop out₀ at s i₀ next₀ out i next = (i ≤ length s) × Puts out₀ at (hexes (take i s)) next out
+returns : tie.Need-returns
+returns c = put-full _ _ _ (c .if1 .taken)
 
-abbrev μ-loop : tie.MeasureT-loop
-μ-loop out₀ at s i₀ next₀ out i next = length s - i
+sub-if2 : tie.Need-sub-if2
+sub-if2 c = search needs
 
-loop-holds : tie.Need-loop-holds Inv-loop μ-loop
-loop-holds c = (search needs, hexes-none _ (c .before .before .args .s .now) _)
+cut-hexes-requires : tie.Need-cut-hexes-requires
+cut-hexes-requires c κs = search needs
 
-shared-slice-read-b : tie.Need-shared-slice-read-b Inv-loop μ-loop
-shared-slice-read-b c = search needs
+same-length : tie.Need-same-length
+same-length c = search needs
 
-put-hex-requires : tie.Need-put-hex-requires Inv-loop μ-loop
-put-hex-requires c κs = search needs
+returns-2 : tie.Need-returns-2
+returns-2 c = search needs
 
-add-i : tie.Need-add-i Inv-loop μ-loop
-add-i c = search needs
+mul-end : tie.Need-mul-end
+mul-end c = search needs
 
-loop-less : tie.Need-loop-less Inv-loop μ-loop
-loop-less c = search needs
+add-end : tie.Need-add-end
+add-end c = search needs
 
-loop-again : tie.Need-loop-again Inv-loop μ-loop
-loop-again c = (search needs, search (needs, hexes-more))
+sub-fill-hexes : tie.Need-sub-fill-hexes
+sub-fill-hexes c = search needs
 
-same-length : tie.Need-same-length Inv-loop μ-loop
-same-length c = size (c .before .loop .inv .1)
+part-fill-hexes-start : tie.Need-part-fill-hexes-start
+part-fill-hexes-start c = search needs
 
-returns : tie.Need-returns Inv-loop μ-loop
-returns c = search (needs, hexes-all)
+part-fill-hexes-end : tie.Need-part-fill-hexes-end
+part-fill-hexes-end c = search needs
+
+fill-hexes-requires : tie.Need-fill-hexes-requires
+fill-hexes-requires c κs = search needs
+
+same-length-2 : tie.Need-same-length-2
+same-length-2 c = search needs
+
+returns-3 : tie.Need-returns-3
+returns-3 c =
+    let digits = length-hexes (c .before .before .before .before .before .before .before .before .args .s .now) in
+    put-part _ _ _ _ _ (c .before .before .fill-hexes .ensures) (omega arith) (omega arith)
 
 pub put-hexes-spec : {M : Type 1} → statement M
 put-hexes-spec =
     tie.close
     (tie.spec
-    Inv-loop
-    μ-loop
-    loop-holds
-    shared-slice-read-b
-    put-hex-requires
-    add-i
-    loop-less
-    loop-again
+    returns
+    sub-if2
+    cut-hexes-requires
     same-length
-    returns)
+    returns-2
+    mul-end
+    add-end
+    sub-fill-hexes
+    part-fill-hexes-start
+    part-fill-hexes-end
+    fill-hexes-requires
+    same-length-2
+    returns-3)

@@ -1,0 +1,24 @@
+//! A plain scanner box controller, written from the paper alone.
+//!
+//! It is a peer: the proved box is tested against it and timed against it. Nothing here is proved. The caller owns
+//! everything (the box record, the ring, the reply, the lines); the library keeps no state and allocates nothing.
+
+#![forbid(unsafe_code)]
+
+mod desk;
+mod record;
+mod rules;
+mod text;
+mod wire;
+
+pub use desk::{perform, serve, tick, Progress};
+pub use record::{FailureCode, FeederState, Granted, Record, ScanState, RING_MOST, WORDS};
+pub use rules::Reason;
+pub use text::LINE_MOST;
+pub use wire::{kind, read, write, Reading, KINDS};
+
+/// The desk program's ring: "with a 4,096-byte ring".
+pub const DESK_RING: usize = 4096;
+
+/// The desk program's reply: "and a 259-byte reply".
+pub const DESK_REPLY: usize = 259;

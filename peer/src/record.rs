@@ -1,0 +1,276 @@
+//! The box record and when it is sound.
+
+/// How many words a record is told in.
+pub const WORDS: usize = 18;
+
+/// "The ring has 1 to 65,536 bytes."
+pub const RING_MOST: usize = 65_536;
+
+/// "SideNumber is 0 to 999": 999 goes to 0.
+pub(crate) const SIDE_NUMBER_MOST: u16 = 999;
+
+/// "SideCount −1 to 999."
+pub(crate) const SIDE_COUNT_LEAST: i32 = -1;
+pub(crate) const SIDE_COUNT_MOST: i32 = 999;
+
+/// "At granted (300 in Erred) the job ends."
+pub(crate) const ERRED_LIMIT: u16 = 300;
+
+/// "Scan state: Idle, Pending, Scanning, Finishing, Erred."
+#[derive(Clone, Copy, PartialEq, Eq, Debug)]
+#[repr(u8)]
+pub enum ScanState {
+    Idle,
+    Pending,
+    Scanning,
+    Finishing,
+    Erred,
+}
+
+/// "Feeder state: Unloaded, Loaded, Busy, Erred."
+#[derive(Clone, Copy, PartialEq, Eq, Debug)]
+#[repr(u8)]
+pub enum FeederState {
+    Unloaded,
+    Loaded,
+    Busy,
+    Erred,
+}
+
+/// "Each has a FailureCode: none, Jammed, Timeout."
+#[derive(Clone, Copy, PartialEq, Eq, Debug)]
+#[repr(u8)]
+pub enum FailureCode {
+    None,
+    Jammed,
+    Timeout,
+}
+
+/// Granted time in seconds. A record that is not sound may hold any number here.
+#[derive(Clone, Copy, PartialEq, Eq, Debug)]
+pub struct Granted(pub u16);
+
+impl Granted {
+    pub const LEAST: u16 = 5;
+    pub const MOST: u16 = 600;
+    pub const DEFAULT: u16 = 60;
+
+    /// "0 gives 60; otherwise below 5 gives 5, above 600 gives 600."
+    pub const fn grant(asked: u16) -> Granted {
+        match asked {
+            0 => Granted(Granted::DEFAULT),
+            1..Granted::LEAST => Granted(Granted::LEAST),
+            Granted::LEAST..=Granted::MOST => Granted(asked),
+            _ => Granted(Granted::MOST),
+        }
+    }
+
+    /// "Fresh is ... granted 60."
+    pub const fn fresh() -> Granted {
+        Granted(Granted::DEFAULT)
+    }
+}
+
+/// The box record. Settings, marks and sensors are numbers, so that a record can be unsound in them.
+#[derive(Clone, Copy, PartialEq, Debug)]
+pub struct Record {
+    pub scan: ScanState,
+    pub scan_failure: FailureCode,
+    pub feeder: FeederState,
+    pub feeder_failure: FailureCode,
+    /// The job held, 0 for none.
+    pub job: u32,
+    /// The last job number given.
+    pub last_job: u32,
+    pub use_feeder: u8,
+    pub append: u8,
+    pub granted: Granted,
+    pub quiet: u16,
+    pub side_count: i32,
+    pub side_number: u16,
+    pub destination: u32,
+    pub stop_asked: u8,
+    /// The tray sensor, MorePages.
+    pub tray: u8,
+    /// The path sensor, 1 is jammed.
+    pub path: u8,
+    /// The oldest picture byte's place in the ring.
+    pub start: u64,
+    /// How many picture bytes wait in the ring.
+    pub stored: u64,
+}
+
+impl Record {
+    /// The fresh record: Idle, Unloaded, both settings 1, SideNumber 1, granted 60 and all else 0.
+    pub fn fresh() -> Record {
+        Record {
+            scan: ScanState::Idle,
+            scan_failure: FailureCode::None,
+            feeder: FeederState::Unloaded,
+            feeder_failure: FailureCode::None,
+            job: 0,
+            last_job: 0,
+            use_feeder: 1,
+            append: 1,
+            granted: Granted::fresh(),
+            quiet: 0,
+            side_count: 0,
+            side_number: 1,
+            destination: 0,
+            stop_asked: 0,
+            tray: 0,
+            path: 0,
+            start: 0,
+            stored: 0,
+        }
+    }
+
+    /// The record that the words tell, sound or not. None where a word does not fit its field.
+    pub fn from_words(words: &[u64; WORDS]) -> Option<Record> {
+        Some(Record {
+            scan: scan_state(words[0])?,
+            scan_failure: failure_code(words[1])?,
+            feeder: feeder_state(words[2])?,
+            feeder_failure: failure_code(words[3])?,
+            job: words[4].try_into().ok()?,
+            last_job: words[5].try_into().ok()?,
+            use_feeder: words[6].try_into().ok()?,
+            append: words[7].try_into().ok()?,
+            granted: Granted(words[8].try_into().ok()?),
+            quiet: words[9].try_into().ok()?,
+            side_count: u32::try_from(words[10]).ok()? as i32,
+            side_number: words[11].try_into().ok()?,
+            destination: words[12].try_into().ok()?,
+            stop_asked: words[13].try_into().ok()?,
+            tray: words[14].try_into().ok()?,
+            path: words[15].try_into().ok()?,
+            start: words[16],
+            stored: words[17],
+        })
+    }
+
+    /// The record in words. SideCount is in two's complement of 32 bits.
+    pub fn to_words(&self) -> [u64; WORDS] {
+        [
+            self.scan as u64,
+            self.scan_failure as u64,
+            self.feeder as u64,
+            self.feeder_failure as u64,
+            self.job.into(),
+            self.last_job.into(),
+            self.use_feeder.into(),
+            self.append.into(),
+            self.granted.0.into(),
+            self.quiet.into(),
+            (self.side_count as u32).into(),
+            self.side_number.into(),
+            self.destination.into(),
+            self.stop_asked.into(),
+            self.tray.into(),
+            self.path.into(),
+            self.start,
+            self.stored,
+        ]
+    }
+
+    /// "A record is sound if": the paper's five points, the cheap ones that hold in every state first.
+    #[inline(always)]
+    pub fn is_sound(&self, ring_length: usize) -> bool {
+        if !self.marks_are_sound() || !self.ring_is_sound(ring_length) {
+            return false;
+        }
+        if self.scan == ScanState::Idle {
+            return self.idle_is_sound();
+        }
+        self.hold_is_sound()
+            && match self.scan {
+                ScanState::Scanning => self.scanning_is_sound(),
+                ScanState::Finishing => self.finishing_is_sound(),
+                _ => self.is_still(),
+            }
+    }
+
+    /// "Settings, marks and sensors are 0 or 1. Path sensor 1 means feeder Erred."
+    #[inline]
+    fn marks_are_sound(&self) -> bool {
+        let together = self.use_feeder | self.append | self.stop_asked | self.tray | self.path;
+        together <= 1 && (self.path == 0 || self.feeder == FeederState::Erred)
+    }
+
+    /// "The ring has 1 to 65,536 bytes; start is inside it; stored is at most its length."
+    #[inline]
+    fn ring_is_sound(&self, ring_length: usize) -> bool {
+        ring_length <= RING_MOST && self.start < ring_length as u64 && self.stored <= ring_length as u64
+    }
+
+    /// "Idle exactly when job is 0; then SideNumber is 1, SideCount and quiet are 0 and no stop is asked."
+    #[inline]
+    fn idle_is_sound(&self) -> bool {
+        let not_fresh = self.job | self.side_count as u32 | u32::from(self.quiet) | u32::from(self.side_number ^ 1);
+        not_fresh == 0 && self.is_still()
+    }
+
+    /// "When held: job is the last number given, granted is 5 to 600, quiet is below granted (in Erred, below 300)."
+    #[inline]
+    fn hold_is_sound(&self) -> bool {
+        let limit = if self.scan == ScanState::Erred { ERRED_LIMIT } else { self.granted.0 };
+        self.job != 0
+            && self.job == self.last_job
+            && self.quiet < limit
+            && (Granted::LEAST..=Granted::MOST).contains(&self.granted.0)
+            && self.side_number <= SIDE_NUMBER_MOST
+            && (SIDE_COUNT_LEAST..=SIDE_COUNT_MOST).contains(&self.side_count)
+    }
+
+    /// Outside Scanning and Finishing nothing is stored, the feeder is not Busy and no stop is asked.
+    #[inline]
+    fn is_still(&self) -> bool {
+        self.stored == 0 && self.stop_asked == 0 && self.feeder != FeederState::Busy
+    }
+
+    /// "Busy exactly when Scanning from the feeder; SideCount is then not 0. On the glass, SideCount is 1 in Scanning."
+    #[inline]
+    fn scanning_is_sound(&self) -> bool {
+        if self.use_feeder == 1 {
+            self.feeder == FeederState::Busy && self.side_count != 0
+        } else {
+            self.feeder != FeederState::Busy && self.side_count == 1
+        }
+    }
+
+    /// Stored is "at least 1 in Finishing". On the glass, SideCount is "0 in Finishing".
+    #[inline]
+    fn finishing_is_sound(&self) -> bool {
+        self.stored >= 1 && self.feeder != FeederState::Busy && (self.use_feeder == 1 || self.side_count == 0)
+    }
+}
+
+fn scan_state(word: u64) -> Option<ScanState> {
+    Some(match word {
+        0 => ScanState::Idle,
+        1 => ScanState::Pending,
+        2 => ScanState::Scanning,
+        3 => ScanState::Finishing,
+        4 => ScanState::Erred,
+        _ => return None,
+    })
+}
+
+fn feeder_state(word: u64) -> Option<FeederState> {
+    Some(match word {
+        0 => FeederState::Unloaded,
+        1 => FeederState::Loaded,
+        2 => FeederState::Busy,
+        3 => FeederState::Erred,
+        _ => return None,
+    })
+}
+
+fn failure_code(word: u64) -> Option<FailureCode> {
+    Some(match word {
+        0 => FailureCode::None,
+        1 => FailureCode::Jammed,
+        2 => FailureCode::Timeout,
+        _ => return None,
+    })
+}
