@@ -2,7 +2,8 @@
  * The bench box for a C host.
  *
  * The host owns everything: the box record, the ring that pictures wait in, the reply that a fetch fills, the buffer
- * that lines go to. The library keeps no state, allocates nothing, calls nothing of the host and always returns.
+ * that lines go to. The library keeps no state, allocates nothing, calls nothing but C's memcpy and memset, and always
+ * returns.
  *
  * Any bytes and any lengths get an answer. Where a length is 0 its pointer may be NULL. What the host promises:
  *   - a pointer with its length spans memory that is the host's to lend (to read; to write where it is not const);
@@ -60,7 +61,8 @@ uint16_t bench_box_tick(bench_box *box, size_t ring_length);
  * Answers the desk record at the front of the input, and puts its line. The result is the record's number: 0, or the
  * reason why it is refused. A fetch fills the lent reply.
  *   - read is the record's length, and 0 where none is answered.
- *   - No whole record at the front (none at all, too): ended is 1, and the line is `bad` with the given offset.
+ *   - No whole record at the front (none at all, too): ended is 1, and the line is `bad` with the given offset. The
+ *     input is taken to be all there is; where more may come, bench_box_serve with last false waits for it.
  *   - Less than BENCH_BOX_LINE_MOST bytes for the line: nothing is done, all three are 0.
  *   - 604: the box record is not sound with this ring. Nothing is done, all three are 0.
  * The result is 0 where no record is answered for another reason than 604.

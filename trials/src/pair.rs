@@ -22,6 +22,9 @@ pub const NONE: u64 = u64::MAX;
 const PROVED: usize = 0;
 const PEER: usize = 1;
 
+/// What lines hold at first.
+const BLANK: u8 = 0xD7;
+
 /// Lines up to this length are looked through for bytes that change behind the text.
 const WATCHED: usize = 2048;
 
@@ -97,8 +100,8 @@ impl Pair {
             lines_before: Vec::new(),
             fill: 0,
             turn: 0,
-            stale: false,
-            longest: 0,
+            stale: true,
+            longest: LINES_ROOM,
             last: [Came::default(); 2],
             calls: 0,
             questions: 0,
@@ -115,9 +118,10 @@ impl Pair {
         if self.stale {
             for lines in &mut self.lines {
                 lines.open(self.longest);
-                lines.bytes_mut().fill(0);
+                lines.bytes_mut().fill(BLANK);
             }
             self.stale = false;
+            self.longest = 0;
         }
         for ring in &mut self.rings {
             ring.open(ring_length);

@@ -175,10 +175,12 @@ pub kept-each : (r : Record) {a0 a1 a2 a3 a4 a5 a6 a7 a8 a9 a10 a11 a12 a13 a14 
     → (a0 ∷ a1 ∷ a2 ∷ a3 ∷ a4 ∷ a5 ∷ a6 ∷ a7 ∷ a8 ∷ a9 ∷ a10 ∷ a11 ∷ a12 ∷ a13 ∷ a14 ∷ a15 ∷ a16 ∷ a17 ∷ [] ≡ kept r)
     × (fitting (a0 ∷ a1 ∷ a2 ∷ a3 ∷ a4 ∷ a5 ∷ a6 ∷ a7 ∷ a8 ∷ a9 ∷ a10 ∷ a11 ∷ a12 ∷ a13 ∷ a14 ∷ a15 ∷ a16 ∷ a17 ∷ []) ≡ true)
 unfolding kept
-kept-each r {a0} {a1} {a2} {a3} {a4} {a5} {a6} {a7} {a8} {a9} {a10} {a11} {a12} {a13} {a14} {a15} {a16} {a17} e0 e1 e2 e3 e4 e5 e6 e7 e8 e9 e10 e11 e12 e13 e14 e15 e16 e17 =
+kept-each r {a0} {a1} {a2} {a3} {a4} {a5} {a6} {a7} {a8} {a9} {a10} {a11} {a12} {a13} {a14} {a15} {a16} {a17}
+    e0 e1 e2 e3 e4 e5 e6 e7 e8 e9 e10 e11 e12 e13 e14 e15 e16 e17 =
     let same : (a0 ∷ a1 ∷ a2 ∷ a3 ∷ a4 ∷ a5 ∷ a6 ∷ a7 ∷ a8 ∷ a9 ∷ a10 ∷ a11 ∷ a12 ∷ a13 ∷ a14 ∷ a15 ∷ a16 ∷ a17 ∷ []) ≡ kept r
     = rw (e0, e1, e2, e3, e4 .0, e5 .0, e6 .0, e7 .0, e8 .0, e9 .0, e10 .0, e11 .0, e12 .0, e13 .0, e14 .0, e15 .0, e16, e17) refl in (
       same,
       ap fitting same
-          ∙ kept-fits r (below-as e4) (below-as e5) (below-as e6) (below-as e7) (below-as e8) (below-as e9) (below-as e10) (below-as e11) (below-as e12) (below-as e13) (below-as e14) (below-as e15),
+          ∙ kept-fits r (below-as e4) (below-as e5) (below-as e6) (below-as e7) (below-as e8) (below-as e9) (below-as e10) (below-as e11)
+          (below-as e12) (below-as e13) (below-as e14) (below-as e15),
     )

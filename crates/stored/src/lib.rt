@@ -13,7 +13,8 @@ use rules::Side;
 ghost use mathlib.Core.Path.{_≡_};
 ghost use mathlib.Core.Bool.{true};
 ghost use Prim.Native.Nat.{_<_};
-ghost use Rattle.stored.specs.Stored.{scanNumber, feedNumber, failureNumber, scanAt, feedAt, failureAt, kept, fitting, scannerIn, jobIn, sideIn, settingsIn, feederIn, ringIn};
+ghost use Rattle.stored.specs.Stored.{scanNumber, feedNumber, failureNumber, scanAt, feedAt, failureAt, kept, fitting};
+ghost use Rattle.stored.specs.Stored.{scannerIn, jobIn, sideIn, settingsIn, feederIn, ringIn};
 ghost use Rattle.stored.specs.Stored.{recorded, loading};
 
 // A record, or numbers that are none.

@@ -3,8 +3,8 @@
 //!     differ [SECONDS] [--seed N] [--part P] [--from CASE]
 //!
 //! SECONDS is the time for all parts together, 100 unless given. The seed fixes every case; a slower machine comes less
-//! far. Exit 0: all agree. Exit 1: something differs, and the shortest stream that shows it is printed; or something that
-//! the paper allows is not reached. One part can be run alone, and from a given case on.
+//! far. Exit 0: all agree. Exit 1: something differs, and the shortest stream that shows it is printed; or something
+//! that the paper allows is not reached. One part can be run alone, and from a given case on.
 //!
 //! Built with panics that unwind, a peer that panics is told and shrunk like any other difference.
 

@@ -50,6 +50,7 @@ fn every_head(trial: &mut Trial) -> Result<u64, Differs> {
             record.resize(4 + length as usize + 1, 0x5A);
             for bytes in [4 + length as usize, 3 + length as usize, 5 + length as usize] {
                 heads += 1;
+                trial.at(2, heads);
                 let whole = Case {
                     words: FRESH,
                     ring_length: 16,
@@ -79,6 +80,7 @@ fn every_head(trial: &mut Trial) -> Result<u64, Differs> {
                 let head = [first, second, kind];
                 for length in 0..=3 {
                     heads += 1;
+                    trial.at(2, heads);
                     for last in [false, true] {
                         let call = Call::Serve { input: head[..length].to_vec(), offset: 7, last, room: 640 };
                         let case = Case {

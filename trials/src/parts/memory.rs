@@ -389,6 +389,7 @@ fn questions(room: &mut Room, lending: &Lending) -> Result<(), String> {
 fn nulls(trial: &mut Trial) -> Result<u64, Differs> {
     let mut calls = 0;
     for number in 0..3000u64 {
+        trial.at(5, number);
         let mut rng = Rng::nth(trial.seed ^ 0x0550, number);
         let mut lending = some_lending(&mut rng);
         let gone = rng.between(1, 15);

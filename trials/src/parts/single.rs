@@ -59,6 +59,7 @@ fn every_fetch(trial: &mut Trial) -> Result<u64, Differs> {
                     for reply in (0..=8).chain(254..=260).chain([600]) {
                         for most in [0, 1, 2, 3, 4, 250, 251, 252, 254, 255] {
                             fetches += 1;
+                            trial.at(3, fetches);
                             let record = fetch(most, &present_name(&words));
                             let call = Call::Perform { input: record, offset: 0, reply, room: 640 };
                             let case = Case {

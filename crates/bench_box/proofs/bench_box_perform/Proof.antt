@@ -31,8 +31,11 @@ tell-requires c κs = search needs
 returns : tie.Need-returns
 returns c = let told = c .before .before .before in
     let a = told .before .before .before .before .before .before .before .before .args in
-    let e = sym (told .before .before .lent .ensures) ∙ told .enum-told .given .1 in
-    (rw (c .tell .ensures, c .before .nothing-done .ensures) (sym (ap (λ (l : Loading). performedBy l (a .words .now) (a .ring .now) (a .reply .now) (a .input .now) (a .offset) (a .line .now)) e)), λ f. f)
+    let e = sym (told .before .before .lent .ensures) ∙ told .enum-told .given .1 in (
+      rw (c .tell .ensures, c .before .nothing-done .ensures) (sym
+          (ap (λ (l : Loading). performedBy l (a .words .now) (a .ring .now) (a .reply .now) (a .input .now) (a .offset) (a .line .now)) e)),
+      λ f. f,
+    )
 
 perform-requires : tie.Need-perform-requires
 perform-requires c κs = search needs
@@ -57,7 +60,8 @@ returns-2 c = let one = c .before .before .before .before .before .before .befor
     let told = one .before .before .before .before .before in
     let a = told .before .before .before .before .before .before .before .before .args in
     let e = sym (told .before .before .lent .ensures) ∙ told .loading .given .1 in (
-      rw (c .tell2 .ensures, c .before .before .before .keep .ensures .0) (one .perform .ensures ∙ sym (ap (λ (l : Loading). performedBy l (a .words .now) (a .ring .now) (a .reply .now) (a .input .now) (a .offset) (a .line .now)) e)),
+      rw (c .tell2 .ensures, c .before .before .before .keep .ensures .0) (one .perform .ensures
+          ∙ sym (ap (λ (l : Loading). performedBy l (a .words .now) (a .ring .now) (a .reply .now) (a .input .now) (a .offset) (a .line .now)) e)),
       λ f. c .before .before .before .keep .ensures .1,
     )
 

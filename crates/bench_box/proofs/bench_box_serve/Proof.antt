@@ -35,8 +35,11 @@ tell-requires c κs = search needs
 returns : tie.Need-returns
 returns c = let told = c .before .before .before in
     let a = told .before .before .before .before .before .before .before .args in
-    let e = sym (told .before .before .lent .ensures) ∙ told .enum-told .given .1 in
-    (rw (c .tell .ensures, c .before .nothing-done .ensures) (sym (ap (λ (l : Loading). servedBy l (a .words .now) (a .ring .now) (a .input .now) (a .offset) (a .last) (a .lines .now)) e)), λ f. f)
+    let e = sym (told .before .before .lent .ensures) ∙ told .enum-told .given .1 in (
+      rw (c .tell .ensures, c .before .nothing-done .ensures) (sym
+          (ap (λ (l : Loading). servedBy l (a .words .now) (a .ring .now) (a .input .now) (a .offset) (a .last) (a .lines .now)) e)),
+      λ f. f,
+    )
 
 serve-requires : tie.Need-serve-requires
 serve-requires c κs = search needs

@@ -35,8 +35,10 @@ returns-2 : tie.Need-returns-2
 returns-2 c = let told = c .before .before .before .before .before in
     let a = told .before .before .before .before .args in
     let e = sym (told .before .before .load .ensures) ∙ told .loading .given .1 in
-    let s = c .before .before .before .second .ensures in
-    (s .0 ∙ sym (ap (tickNumber (a .length)) e), (c .keep .ensures .0 ∙ ap kept (s .1) ∙ sym (ap (tickWords (a .length) (a .words .now)) e), λ f. c .keep .ensures .1))
+    let s = c .before .before .before .second .ensures in (
+      s .0 ∙ sym (ap (tickNumber (a .length)) e),
+      (c .keep .ensures .0 ∙ ap kept (s .1) ∙ sym (ap (tickWords (a .length) (a .words .now)) e), λ f. c .keep .ensures .1),
+    )
 
 pub bench-box-tick-spec : {M : Type 1} → statement M
 bench-box-tick-spec =

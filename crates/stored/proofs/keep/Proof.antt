@@ -69,25 +69,19 @@ of-place-requires-2 c κs = search needs
 
 returns : tie.Need-returns
 returns c =
+    let ring = c .before in
+    let marks = ring .before .before in
+    let sides = marks .before .before .before in
+    let times = sides .before .before .before in
+    let settings = times .before .before in
+    let jobs = settings .before .before in
+    let states = jobs .before .before in
     kept-each _
-    (c .before .before .before .before .before .before .before .before .before .before .before .before .before .before .before .before .before .before .scan-number .ensures)
-    (c .before .before .before .before .before .before .before .before .before .before .before .before .before .before .before .before .before .failure-number .ensures)
-    (c .before .before .before .before .before .before .before .before .before .before .before .before .before .before .before .before .feed-number .ensures)
-    (c .before .before .before .before .before .before .before .before .before .before .before .before .before .before .before .failure-number2 .ensures)
-    (c .before .before .before .before .before .before .before .before .before .before .before .before .before .before .of-long .ensures)
-    (c .before .before .before .before .before .before .before .before .before .before .before .before .before .of-long2 .ensures)
-    (c .before .before .before .before .before .before .before .before .before .before .before .before .of-byte .ensures)
-    (c .before .before .before .before .before .before .before .before .before .before .before .of-byte2 .ensures)
-    (c .before .before .before .before .before .before .before .before .before .before .of-word .ensures)
-    (c .before .before .before .before .before .before .before .before .before .of-word2 .ensures)
-    (c .before .before .before .before .before .before .before .before .of-long3 .ensures)
-    (c .before .before .before .before .before .before .before .of-word3 .ensures)
-    (c .before .before .before .before .before .before .of-long4 .ensures)
-    (c .before .before .before .before .before .of-byte3 .ensures)
-    (c .before .before .before .before .of-byte4 .ensures)
-    (c .before .before .before .of-byte5 .ensures)
-    (c .before .before .of-place .ensures)
-    (c .before .of-place2 .ensures)
+    (states .before .before .before .scan-number .ensures) (states .before .before .failure-number .ensures) (states .before .feed-number .ensures) (states .failure-number2 .ensures)
+    (jobs .before .of-long .ensures) (jobs .of-long2 .ensures) (settings .before .of-byte .ensures) (settings .of-byte2 .ensures)
+    (times .before .of-word .ensures) (times .of-word2 .ensures) (sides .before .before .of-long3 .ensures) (sides .before .of-word3 .ensures)
+    (sides .of-long4 .ensures) (marks .before .before .of-byte3 .ensures) (marks .before .of-byte4 .ensures) (marks .of-byte5 .ensures)
+    (ring .before .of-place .ensures) (ring .of-place2 .ensures)
 
 pub keep-spec : {M : Type 1} → statement M
 keep-spec =

@@ -33,7 +33,14 @@ ring-requires c κs = search needs
 
 returns : tie.Need-returns
 unfolding recorded
-returns c = rw (c .ring .ensures, c .before .feeder .ensures, c .before .before .settings .ensures, c .before .before .before .side .ensures, c .before .before .before .before .job .ensures, c .before .before .before .before .before .scanner .ensures) refl
+returns c = rw (
+  c .ring .ensures,
+  c .before .feeder .ensures,
+  c .before .before .settings .ensures,
+  c .before .before .before .side .ensures,
+  c .before .before .before .before .job .ensures,
+  c .before .before .before .before .before .scanner .ensures,
+) refl
 
 pub whole-spec : {M : Type 1} → statement M
 whole-spec =
