@@ -21,6 +21,8 @@ pub enum Role {
     AsIs,
     HeldJob,
     PresentName,
+    /// A name with the held job's ten digits that is not the present one.
+    HeldJobInName,
 }
 
 #[derive(Clone, Debug, PartialEq)]
@@ -295,6 +297,7 @@ impl Model {
         }
         match input[2] {
             kind::FETCH if input[5..4 + input[3] as usize] == present_name(&words) => Role::PresentName,
+            kind::FETCH if input[3] >= 12 && input[5..16] == present_name(&words)[..11] => Role::HeldJobInName,
             _ if names_job(input[2]) && input[4..8] == (words[JOB] as u32).to_be_bytes() => Role::HeldJob,
             _ => Role::AsIs,
         }
@@ -307,6 +310,10 @@ impl Model {
             Role::AsIs => input,
             Role::HeldJob => {
                 input[4..8].copy_from_slice(&(words[JOB] as u32).to_be_bytes());
+                input
+            }
+            Role::HeldJobInName => {
+                input[5..16].copy_from_slice(&present_name(&words)[..11]);
                 input
             }
             Role::PresentName => {

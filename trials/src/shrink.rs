@@ -2,12 +2,12 @@
 
 use crate::case::{run_call, usual, Call, Case, Found, How, Item, Role};
 use crate::pair::{hex, show_text, words_text, Pair};
-use crate::streams::{kind, record, start, start_scan, whole};
+use crate::streams::{fetch, job_call, kind, record, start, start_scan, whole};
 use crate::words::{is_sound, Words, FRESH, JOB, LAST_JOB, NAMES, SIDE_NUMBER};
 use std::time::{Duration, Instant};
 
 /// A case of more calls than this is told in one call too.
-const LONG: usize = 40;
+const LONG: usize = 12;
 
 /// How long shrinking may take.
 const PATIENCE: Duration = Duration::from_secs(30);
@@ -50,6 +50,21 @@ fn plain_records(input: &[u8]) -> Vec<Vec<u8>> {
     }
 }
 
+/// Plain records that many differences show in.
+fn plain_ends() -> Vec<(Vec<u8>, Role)> {
+    let held = |kind| (job_call(kind, 0, None), Role::HeldJob);
+    vec![
+        (record(kind::TICK, &[]), Role::AsIs),
+        (record(kind::SIDE_ENDED, &[]), Role::AsIs),
+        (record(kind::PATH, &[1]), Role::AsIs),
+        (record(kind::BYTES, &[0]), Role::AsIs),
+        held(kind::STOP),
+        held(kind::ABORT),
+        held(kind::LOAD),
+        (fetch(255, &[]), Role::PresentName),
+    ]
+}
+
 pub struct Shrinker<'a> {
     /// Runs a case: what it finds.
     try_case: Box<dyn FnMut(&Case) -> Option<Found> + 'a>,
@@ -84,6 +99,7 @@ impl<'a> Shrinker<'a> {
             self.drop_items();
             self.simplify_items();
             self.drop_beside_plain();
+            self.shorter_end();
             if self.size() == before || Instant::now() > self.deadline {
                 break;
             }
@@ -286,6 +302,26 @@ impl<'a> Shrinker<'a> {
         }
     }
 
+    /// Of a short list, fewer items and a plain one behind them.
+    fn shorter_end(&mut self) {
+        if self.best.items.len() > 24 {
+            return;
+        }
+        for keep in 0..self.best.items.len().saturating_sub(1) {
+            for (record, role) in plain_ends() {
+                let mut end = usual(record);
+                end.role = role;
+                let shown = self.offer_with(|case| {
+                    case.items.truncate(keep);
+                    case.items.push(end);
+                });
+                if shown {
+                    return;
+                }
+            }
+        }
+    }
+
     fn simplify_items(&mut self) {
         let mut place = 0;
         while place < self.best.items.len() {
@@ -374,12 +410,13 @@ impl<'a> Shrinker<'a> {
                     }
                 }
             }
-            kind::FETCH => {
+            kind::FETCH if role == Some(Role::AsIs) => {
                 for length in [1, 2] {
                     self.offer_input(place, record(kind::FETCH, &input[4..(4 + length).min(input.len())]));
                 }
                 self.smaller_bytes(place, 4);
             }
+            kind::FETCH => {}
             kind::START_SCAN | kind::START => {
                 for plain in plain_records(&input) {
                     if plain == input || self.offer_input(place, plain) {

@@ -74,7 +74,7 @@ fn some_input(seed: u64, number: u64) -> (Vec<u8>, usize) {
         },
     };
     let mut input = stream(rng.next(), RING, records, mix).concat();
-    if rng.chance(30) {
+    if records > 0 && rng.chance(30) {
         damage(&mut rng, &mut input);
     }
     let piece = match input.len() {
