@@ -129,13 +129,10 @@ fn cut_decimal(out: &mut [u8], at: usize, n: u64, w: usize) -> usize
     put_bytes(out, at, &buffer[..w])
 }
 
-// A number in decimal, with no zeros in front. Most have one digit. Where there is room for all, they are put straight into their places.
-pub fn put_decimal(out: &mut [u8], at: usize, n: u64) -> usize
+// Where there is room for all, they are put straight into their places.
+fn put_digits(out: &mut [u8], at: usize, n: u64) -> usize
     ensures { λ r. ⌜ Puts (now (out .entry)) at (decimal n) r (now (out .exit)) ⌝ }
 {
-    if n < 10 {
-        return put_byte(out, at, 48 + n as u8);
-    }
     if out.len() <= at {
         return at;
     }
@@ -146,6 +143,16 @@ pub fn put_decimal(out: &mut [u8], at: usize, n: u64) -> usize
     let end = at + w;
     fill_digits(&mut out[at..end], n);
     end
+}
+
+// A number in decimal, with no zeros in front. Most have one digit, which is put where the call stands.
+pub fn put_decimal(out: &mut [u8], at: usize, n: u64) -> usize
+    ensures { λ r. ⌜ Puts (now (out .entry)) at (decimal n) r (now (out .exit)) ⌝ }
+{
+    if n < 10 {
+        return put_byte(out, at, 48 + n as u8);
+    }
+    put_digits(out, at, n)
 }
 
 // With no branch, so that a loop of these is vectorised: from ten on n + 6 has a sixteen in it, and seven signs stand between 9 and A.
