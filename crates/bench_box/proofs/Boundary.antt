@@ -6,7 +6,7 @@ use mathlib.Core.Path.{_≡_, refl, sym, ap, _∙_}
 use mathlib.Core.Bool.{true, false}
 use mathlib.Core.List.{List}
 use lib.Dec.{eqb}
-use lib.ListN.{length, replicate}
+use lib.ListN.{length, replicate, length-append}
 use lib.Seq.{take-all}
 use Rattle.rules.specs.declared.Record.{Record}
 use Rattle.rules.specs.Calls.{State, report, Tick}
@@ -15,10 +15,12 @@ use Rattle.rules.proofs.Theorems.{refused-keeps}
 use Rattle.answers.specs.Told.{stateOf}
 use Rattle.calls.specs.declared.Request.{Request}
 use Rattle.calls.specs.Asked.{asked}
+use Rattle.text.specs.Digits.{mostDigits}
 use Rattle.text.specs.Put.{fitting}
+use Rattle.text.proofs.Putting.{length-digits}
 use Rattle.line.specs.Line.{lineFor, lineRoom}
 use Rattle.line.proofs.Bound.{step-bound}
-use Rattle.stream.specs.Desk.{replyRoom}
+use Rattle.stream.specs.Desk.{replyRoom, badLine}
 use Rattle.stream.proofs.Replies.{lent-within}
 use Rattle.stored.specs.declared.Loading.{Loading}
 use Rattle.stored.specs.Stored.{kept, loading}
@@ -38,9 +40,13 @@ tick-keeps ws n e f = go (loading ws) refl f
 pub left-again : (ws : List ℕ) (r : Record) → ws ≡ kept r → Rattle.stored.specs.Stored.fitting ws ≡ true → loading ws ≡ Loading.Loads r
 left-again ws r e f = ap loading e ∙ loads-kept r (ap Rattle.stored.specs.Stored.fitting (sym e) ∙ f)
 
--- a line has room for all of it, whatever is asked: with any reply that the desk would lend
+-- where a record is answered its line has room for all of it, with any reply that the desk would lend; so has a bad line
 pub line-whole : (k : ℕ) (s : State) (q : Request) (given reply lines : List ℕ) → length reply ≤ replyRoom → lineRoom ≤ length lines
     → fitting lines 0 (lineFor k (step s (asked q given reply))) ≡ lineFor k (step s (asked q given reply))
 line-whole k s q given reply lines h room =
     take-all (length lines - 0) (lineFor k (step s (asked q given reply)))
     (omega (arith, step-bound k s (asked q given reply) (omega (arith, lent-within q given reply))))
+
+pub bad-whole : (offset : ℕ) (lines : List ℕ) → lineRoom ≤ length lines → fitting lines 0 (badLine offset) ≡ badLine offset
+bad-whole offset lines room =
+    take-all (length lines - 0) (badLine offset) (simp length-append (omega (arith, length-digits mostDigits offset)))

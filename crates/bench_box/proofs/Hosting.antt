@@ -30,7 +30,8 @@ use Rattle.stream.proofs.Replies.{Bare, bare, reply-alike}
 use Rattle.stored.specs.declared.Loading.{Loading}
 use Rattle.stored.specs.Stored.{kept, loading}
 use Rattle.bench_box.specs.declared.One.{One}
-use Rattle.bench_box.specs.Host.{lentBox, soundIn, Came, flag, came, windowed, saying, idly, oneOf, onceIn}
+use Rattle.bench_box.specs.Held.{came}
+use Rattle.bench_box.specs.Host.{lentBox, soundIn, Came, flag, windowed, saying, idly, oneOf, onceIn}
 
 -- ---- the record lent
 module _ (ws : List ℕ) (n : ℕ) where

@@ -6,7 +6,7 @@ use lib.Dec.{leb, ltb}
 use lib.ListN.{length}
 use Rattle.rules.specs.declared.Record.{Record}
 use Rattle.rules.specs.Record.{sound}
-use Rattle.rules.specs.Calls.{Outcome, nothing}
+use Rattle.rules.specs.Calls.{n604, numberOf, Outcome, nothing}
 use Rattle.rules.specs.Machine.{step}
 use Rattle.answers.specs.Told.{stateOf}
 use Rattle.calls.specs.Asked.{asked, kindOf, replied}
@@ -17,7 +17,6 @@ use Rattle.stream.specs.Window.{Progress, begun, served}
 use Rattle.stored.specs.declared.Loading.{Loading}
 use Rattle.stored.specs.Stored.{kept, numberAt, loading}
 use Rattle.entry.specs.Second.{secondOf}
-use Rattle.bench_box.specs.declared.One.{One}
 
 -- ---- the record of some numbers, if it is sound with a ring of n bytes
 abbrev pub soundIn : ℕ → Loading → Loading
@@ -29,7 +28,7 @@ lentBox ws n = soundIn n (loading ws)
 
 -- record not sound with the lent ring
 abbrev pub unsound : ℕ
-unsound = 604
+unsound = numberOf n604
 
 -- ---- a second: its number, and the numbers that it leaves
 abbrev pub tickNumber : ℕ → Loading → ℕ
@@ -56,18 +55,6 @@ pub record Came : Type 0 where
   pub reply : List ℕ
   pub lines : List ℕ
   pub progress : List ℕ
-
--- as the code holds it
-abbrev pub came : One → List ℕ → List ℕ → List ℕ → Came
-came o ring reply lines =
-    record {
-      number = o .number;
-      words = kept (o .next);
-      ring = ring;
-      reply = reply;
-      lines = lines;
-      progress = o .progress .read ∷ o .progress .written ∷ o .progress .ended ∷ [];
-    }
 
 abbrev pub flag : Bool → ℕ
 flag b = cond b 1 0
@@ -97,7 +84,7 @@ servedBy Loading.Malformed ws ring input base last lines = refused ws ring [] li
 abbrev pub serving : List ℕ → List ℕ → List ℕ → ℕ → Bool → List ℕ → Came
 serving ws ring input base last lines = servedBy (lentBox ws (length ring)) ws ring input base last lines
 
--- one record: its line is put as far as there is room, which is always enough (`line-whole`)
+-- one record: its line is put as far as there is room. With a reply of up to 259 bytes that is all of it (`line-whole`, `bad-whole`)
 abbrev pub saying : Outcome → List ℕ → List ℕ → List ℕ → ℕ → ℕ → Came
 saying o reply lines text read ended =
     record {

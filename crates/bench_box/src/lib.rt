@@ -10,7 +10,8 @@ ghost use mathlib.Core.Bool.{true};
 ghost use mathlib.Core.List.{[], _∷_};
 ghost use Rattle.rules.specs.Record.{fresh};
 ghost use Rattle.stored.specs.Stored.{kept, fitting, loading};
-ghost use Rattle.bench_box.specs.Host.{lentBox, tickNumber, tickWords, told, flag, came, onceIn, serving, performing};
+ghost use Rattle.bench_box.specs.Host.{lentBox, tickNumber, tickWords, told, flag, onceIn, serving, performing};
+ghost use Rattle.bench_box.specs.Held.{came};
 
 const UNSOUND: u16 = 604;
 
