@@ -18,28 +18,28 @@ fn unloaded(r: Record) -> Record
     ensures { λ n. ⌜ n ≡ withFeeder (unloads (r .feeder)) r ⌝ }
 {
     let f = r.feeder;
-    moves::with_feeder(moves::feeder::unload(f), r)
+    moves::with_feeder(feeding::unload(f), r)
 }
 
 fn loaded(r: Record) -> Record
     ensures { λ n. ⌜ n ≡ withFeeder (loads (r .feeder)) r ⌝ }
 {
     let f = r.feeder;
-    moves::with_feeder(moves::feeder::load(f), r)
+    moves::with_feeder(feeding::load(f), r)
 }
 
 fn ejected(value: u8, r: Record) -> Record
     ensures { λ n. ⌜ n ≡ withFeeder (ejects value (r .feeder)) r ⌝ }
 {
     let f = r.feeder;
-    moves::with_feeder(moves::feeder::eject(value, f), r)
+    moves::with_feeder(feeding::eject(value, f), r)
 }
 
 fn cleared(r: Record) -> Record
     ensures { λ n. ⌜ n ≡ withFeeder (resets (r .feeder)) r ⌝ }
 {
     let f = r.feeder;
-    moves::with_feeder(moves::feeder::reset(f), r)
+    moves::with_feeder(feeding::reset(f), r)
 }
 
 // ---- the calls
@@ -61,7 +61,7 @@ pub fn load(r: Record, ring: &[u8], job: u32) -> AfterCall
     if state::feed::is_erred(s) {
         return AfterCall::told(Done::Refused(Why::FeederErred), r);
     }
-    if moves::feeder::is_loadless(f) {
+    if feeding::is_loadless(f) {
         return AfterCall::told(Done::Refused(Why::NoSheet), unloaded(r));
     }
     AfterCall::told(Done::Accepted, loaded(r))

@@ -14,10 +14,14 @@ use Rattle.rules.specs.declared.Ring.{Ring}
 use Rattle.rules.specs.Record.{finishing}
 use Rattle.rules.specs.Ring.{wrap, queue}
 use Rattle.rules.specs.Moves.{withRing, heard, drained, headed, least, moved, last, fetched}
+use Rattle.rules.specs.Calls.{scan, Fetch}
+use Rattle.rules.specs.Machine.{effect, scanEffect}
 use Rattle.rules.proofs.RingLaws.{length-queue}
 use Rattle.ring.specs.Lent.{has, left, goes, takeOut}
 use Rattle.answers.specs.declared.Fetched.{Fetched}
 use Rattle.answers.specs.declared.AfterFetch.{AfterFetch}
+use Rattle.answers.specs.Told.{stateOf, outcome}
+use Rattle.answers.specs.Told as told
 use Rattle.fetch.specs.Reply.{replyWith, noted}
 
 -- ---- the reply
@@ -64,9 +68,17 @@ reply-made ring (a ∷ b ∷ c ∷ d ∷ rest) part start want k h e p =
     ∙ ap (λ (t : List ℕ). queue ring start k ++ drop k t) (behind-is l)
     ∙ ap (λ (t : List ℕ). queue ring start k ++ t) (drop-drop k headed l))
 
-pub picture-read : (ring reply : List ℕ) (start k : ℕ) → take k (drop headed (replyWith ring start k reply)) ≡ queue ring start k
+picture-read : (ring reply : List ℕ) (start k : ℕ) → take k (drop headed (replyWith ring start k reply)) ≡ queue ring start k
 unfolding replyWith
 picture-read ring reply start k = take-at (queue ring start k) (drop (headed + k) reply) k (length-queue ring start k)
+
+-- what is told and left is the call's effect
+pub handed : (r : Record) (ring called reply : List ℕ) (most : ℕ) {a : AfterFetch} {l : List ℕ}
+    → a ≡ noted (least (r .ring .stored) most (length reply)) (length ring) r
+    → l ≡ replyWith ring (r .ring .start) (least (r .ring .stored) most (length reply)) reply
+    → outcome (told.fetched l (a .answer)) (a .next) ring l ≡ effect (scan (Fetch called most reply)) (stateOf r ring)
+unfolding noted replyWith effect scanEffect
+handed r ring called reply most e f = rw (e, f) (rw (picture-read ring reply (r .ring .start) (least (r .ring .stored) most (length reply))))
 
 pub least-is : (stored most room want k : ℕ) → want ≡ min stored most → k ≡ min want (room - headed) → k ≡ least stored most room
 least-is stored most room want k w e = omega (arith, w, e)

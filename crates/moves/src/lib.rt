@@ -1,9 +1,4 @@
 // The moves of the record, each under the requirements' name. What they leave alone they keep.
-pub mod feeder;
-pub mod job;
-pub mod report;
-pub mod side;
-
 use rules::Failure;
 use rules::Feeder;
 use rules::Record;
@@ -68,8 +63,7 @@ pub fn hear(k: usize, g: Ring, r: Record) -> Record
 fn announce(r: Record) -> Record
     ensures { λ n. ⌜ n ≡ announced r ⌝ }
 {
-    let d = r.side;
-    let id = side::raise(d.destination);
+    let id = sides::raise(r.side.destination);
     let mut n = r;
     n.side.destination = id;
     n
@@ -79,10 +73,8 @@ fn announce(r: Record) -> Record
 pub fn begin(r: Record) -> Record
     ensures { λ n. ⌜ n ≡ begun r ⌝ }
 {
-    let t = r.settings;
-    let from = t.feeder;
     let was = r.feeder;
-    let f = feeder::take_from(from, was);
+    let f = feeding::take_from(r.settings.feeder, was);
     let fed = with_feeder(f, r);
     let scanning = stand(Scan::Scanning, fed);
     announce(scanning)
@@ -117,7 +109,7 @@ pub fn end(r: Record) -> Record
     ensures { λ n. ⌜ n ≡ ended r ⌝ }
 {
     let was = r.feeder;
-    let f = feeder::free(was);
+    let f = feeding::free(was);
     release(Failure::None, f, r)
 }
 
@@ -126,7 +118,7 @@ pub fn end_by_time(r: Record) -> Record
     ensures { λ n. ⌜ n ≡ timedOut r ⌝ }
 {
     let was = r.feeder;
-    let f = feeder::be_late(was);
+    let f = feeding::be_late(was);
     release(Failure::Timeout, f, r)
 }
 
@@ -147,14 +139,12 @@ pub fn fault(r: Record) -> Record
 fn wait(r: Record) -> Record
     ensures { λ n. ⌜ n ≡ waited r ⌝ }
 {
-    let p = stand(Scan::Pending, r);
-    let d = r.side;
-    if d.count == Side::ENDLESS {
-        let mut w = p;
+    let mut w = stand(Scan::Pending, r);
+    if r.side.count == Side::ENDLESS {
         w.side.count = 0;
         return w;
     }
-    p
+    w
 }
 
 // SideNumber plus 1, 999 going to 0.
@@ -176,21 +166,18 @@ fn number(r: Record) -> Record
 fn drain_on(r: Record) -> Record
     ensures { λ n. ⌜ n ≡ drainedOn r ⌝ }
 {
-    let j = r.job;
-    let d = r.side;
-    let t = r.settings;
-    let from = t.feeder;
+    let from = r.settings.feeder;
     let f = r.feeder;
-    if j.stop == 1 {
+    if r.job.stop == 1 {
         return end(r);
     }
-    if d.count == 0 {
+    if r.side.count == 0 {
         return stand(Scan::Pending, r);
     }
-    if feeder::jam_stops(from, f) {
+    if feeding::jam_stops(from, f) {
         return fault(r);
     }
-    if feeder::sheet_stops(from, f) {
+    if feeding::sheet_stops(from, f) {
         return wait(r);
     }
     begin(r)

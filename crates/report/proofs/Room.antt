@@ -2,14 +2,23 @@
 use Prim.Native.Nat.{ℕ, _+_, _-_, _≤_}
 use mathlib.Core.Path.{_≡_, sym, _∙_}
 use mathlib.Core.Bool.{Bool, true, false, not}
+use mathlib.Core.List.{List, []}
 use native.Mathlib.Omega.{arith}
 use borrow.Author.Tests.{lt-ltb, le-ltb, le-leb, leb-true, leb-false}
 use lib.Dec.{leb, ltb}
+use lib.ListN.{length}
 use Rattle.rules.specs.declared.Record.{Record}
-use Rattle.rules.specs.Record.{mostRing, sound}
+use Rattle.rules.specs.Record.{mostRing, scanning, sound}
+use Rattle.rules.specs.Moves.{filled}
+use Rattle.rules.specs.Calls.{report, Bytes}
+use Rattle.rules.specs.Machine.{step, refusals, reportRefusals, effect, reportEffect}
 use Rattle.rules.proofs.Guards.{went-on, stopped-at}
 use Rattle.rules.proofs.Sound.{to-sound}
-use Rattle.ring.specs.Lent.{takes}
+use Rattle.ring.specs.Lent.{takes, putIn}
+use Rattle.answers.specs.declared.Why.{Why}
+use Rattle.answers.specs.declared.Stored.{Stored}
+use Rattle.answers.specs.Told.{stateOf, outcome, put}
+use Rattle.answers.proofs.Leads.{leads, accept, hit, skip, through-not}
 
 module _ (r : Record) (n k : ℕ) (t : Bool) (s : sound r n ≡ true) (e : t ≡ takes (r .ring) n k) where
   free : takes (r .ring) n k ≡ leb k (n - r .ring .stored)
@@ -17,13 +26,30 @@ module _ (r : Record) (n k : ℕ) (t : Bool) (s : sound r n ≡ true) (e : t ≡
       let fit = to-sound r n s .common .ring in
       rw (lt-ltb (r .ring .start) n (fit .start), le-leb (r .ring .stored) n (fit .stored))
 
-  pub no-room : not t ≡ true → ltb (n - r .ring .stored) k ≡ true
+  no-room : not t ≡ true → ltb (n - r .ring .stored) k ≡ true
   no-room h = lt-ltb (n - r .ring .stored) k (leb-false k (n - r .ring .stored) (sym free ∙ stopped-at _ t e h))
 
-  pub some-room : not t ≡ false → ltb (n - r .ring .stored) k ≡ false
+  some-room : not t ≡ false → ltb (n - r .ring .stored) k ≡ false
   some-room h = le-ltb (n - r .ring .stored) k (leb-true k (n - r .ring .stored) (sym free ∙ went-on _ t e h))
 
   pub room-left : not t ≡ false → r .ring .stored + k ≤ mostRing
   room-left h =
       let fit = to-sound r n s .common .ring in
       omega (arith, leb-true k (n - r .ring .stored) (sym free ∙ went-on _ t e h), fit .stored, fit .most)
+
+-- Bytes in a sound box that is Scanning, told by whether the ring took them, `t`
+module _ (r : Record) (ring bs : List ℕ) {s c t : Bool} (es : s ≡ sound r (length ring)) (hs : not s ≡ false)
+    (ec : c ≡ scanning (r .scanner .state)) (hc : not c ≡ false) (et : t ≡ takes (r .ring) (length ring) (length bs)) where
+  pub told-full : {left : List ℕ} → left ≡ putIn ring (r .ring) bs → not t ≡ true
+      → outcome (put (Stored.Refused Why.NoRoom)) r left [] ≡ step (stateOf r ring) (report (Bytes bs))
+  unfolding step refusals reportRefusals effect reportEffect
+  told-full e h =
+      let full = no-room r (length ring) (length bs) t (went-on _ s es hs) et h in
+      rw (e, stopped-at _ t et h) (leads (skip (through-not es hs) (skip (through-not ec hc) (hit full))))
+
+  pub told-stored : {left : List ℕ} {n : Record} → left ≡ putIn ring (r .ring) bs → not t ≡ false → n ≡ filled (length bs) r
+      → outcome (put (Stored.Bytes (length bs))) n left [] ≡ step (stateOf r ring) (report (Bytes bs))
+  unfolding step refusals reportRefusals effect reportEffect
+  told-stored e h f =
+      let room = some-room r (length ring) (length bs) t (went-on _ s es hs) et h in
+      rw (f, e, went-on _ t et h) (leads (skip (through-not es hs) (skip (through-not ec hc) (skip room accept))))

@@ -72,14 +72,14 @@ pub fn side_ended(r: Record, ring: &[u8]) -> AfterCall
     if !state::scan::is_scanning(s) {
         return AfterCall::told(Done::Refused(Why::WrongState), r);
     }
-    AfterCall::told(Done::Accepted, moves::report::end_side(r))
+    AfterCall::told(Done::Accepted, sensors::end_side(r))
 }
 
 fn with_tray(value: u8, r: Record) -> Record
     ensures { λ n. ⌜ n ≡ withFeeder (trayAt value (r .feeder)) r ⌝ }
 {
     let f = r.feeder;
-    moves::with_feeder(moves::feeder::set_tray(value, f), r)
+    moves::with_feeder(feeding::set_tray(value, f), r)
 }
 
 pub fn tray(r: Record, ring: &[u8], value: u8) -> AfterCall
@@ -103,7 +103,7 @@ pub fn path(r: Record, ring: &[u8], value: u8) -> AfterCall
     if !state::asked::is_marked(value) {
         return AfterCall::told(Done::Refused(Why::Unlisted), r);
     }
-    AfterCall::told(Done::Accepted, moves::report::set_path(value, r))
+    AfterCall::told(Done::Accepted, sensors::set_path(value, r))
 }
 
 // What a ring's bytes are matters to no second, only how many they are.
@@ -113,7 +113,7 @@ pub fn tick_in(r: Record, length: usize) -> AfterCall
     if !state::is_sound(r, length) {
         return AfterCall::told(Done::Refused(Why::Unsound), r);
     }
-    AfterCall::told(Done::Accepted, moves::report::tick(r))
+    AfterCall::told(Done::Accepted, sensors::tick(r))
 }
 
 pub fn tick(r: Record, ring: &[u8]) -> AfterCall

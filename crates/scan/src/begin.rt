@@ -23,8 +23,7 @@ ghost use Rattle.answers.specs.Told.{stateOf, outcome, done, granted};
 fn are_listed(from: u8, count: u32, r: Record) -> bool
     ensures { λ b. ⌜ b ≡ sidesListed from count r ⌝ }
 {
-    let t = r.settings;
-    let source = moves::side::settle(from, t.feeder);
+    let source = sides::settle(from, r.settings.feeder);
     let endless = count == Side::ENDLESS;
     (from <= Settings::DEVICE)
         & ((count <= Side::MOST) | endless)
@@ -41,10 +40,9 @@ fn all_listed(from: u8, count: u32, append: u8, r: Record) -> bool
 fn jam_stops(from: u8, count: u32, r: Record) -> bool
     ensures { λ b. ⌜ b ≡ (not (eqb count 0) && jamStops (settled from (r .settings .feeder)) (r .feeder)) ⌝ }
 {
-    let t = r.settings;
     let f = r.feeder;
-    let source = moves::side::settle(from, t.feeder);
-    let stops = moves::feeder::jam_stops(source, f);
+    let source = sides::settle(from, r.settings.feeder);
+    let stops = feeding::jam_stops(source, f);
     !(count == 0) & stops
 }
 
@@ -52,10 +50,9 @@ fn jam_stops(from: u8, count: u32, r: Record) -> bool
 fn sheet_stops(from: u8, count: u32, r: Record) -> bool
     ensures { λ b. ⌜ b ≡ (not (eqb count 0) && sheetStops (settled from (r .settings .feeder)) (r .feeder)) ⌝ }
 {
-    let t = r.settings;
     let f = r.feeder;
-    let source = moves::side::settle(from, t.feeder);
-    let stops = moves::feeder::sheet_stops(source, f);
+    let source = sides::settle(from, r.settings.feeder);
+    let stops = feeding::sheet_stops(source, f);
     !(count == 0) & stops
 }
 
@@ -64,10 +61,10 @@ fn begun(from: u8, count: u32, append: u8, asked: u32, r: Record) -> Record
     ensures { λ n. ⌜ n ≡ started (settled from (r .settings .feeder)) count (given (settled append (r .settings .append)) asked r) ⌝ }
 {
     let t = r.settings;
-    let source = moves::side::settle(from, t.feeder);
-    let appends = moves::side::settle(append, t.append);
-    let n = moves::job::give(appends, asked, r);
-    moves::job::start(source, count, n)
+    let source = sides::settle(from, t.feeder);
+    let appends = sides::settle(append, t.append);
+    let n = jobs::give(appends, asked, r);
+    jobs::start(source, count, n)
 }
 
 fn accept(from: u8, count: u32, append: u8, asked: u32, r: Record) -> AfterStartScan
@@ -86,9 +83,8 @@ fn accept(from: u8, count: u32, append: u8, asked: u32, r: Record) -> AfterStart
 fn restarted(from: u8, count: u32, r: Record) -> Record
     ensures { λ n. ⌜ n ≡ started (settled from (r .settings .feeder)) count r ⌝ }
 {
-    let t = r.settings;
-    let source = moves::side::settle(from, t.feeder);
-    moves::job::start(source, count, r)
+    let source = sides::settle(from, r.settings.feeder);
+    jobs::start(source, count, r)
 }
 
 // ---- the calls
@@ -138,7 +134,7 @@ pub fn start(r: Record, ring: &[u8], job: u32, from: u8, count: u32) -> AfterCal
     if state::asked::not_held(job, r) {
         return AfterCall::told(Done::Refused(Why::OtherJob), r);
     }
-    if !moves::job::waits(s) {
+    if !jobs::waits(s) {
         return AfterCall::told(Done::Refused(Why::WrongState), r);
     }
     if jam_stops(from, count, r) {

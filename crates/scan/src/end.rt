@@ -18,7 +18,7 @@ pub fn stop(r: Record, ring: &[u8], job: u32) -> AfterCall
     if state::asked::not_held(job, r) {
         return AfterCall::told(Done::Refused(Why::OtherJob), r);
     }
-    AfterCall::told(Done::Accepted, moves::job::stop(r))
+    AfterCall::told(Done::Accepted, jobs::stop(r))
 }
 
 pub fn abort(r: Record, ring: &[u8], job: u32) -> AfterCall

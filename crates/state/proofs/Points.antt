@@ -5,6 +5,7 @@ use mathlib.Core.Bool.{Bool, true, false, not, _&&_, _||_, false≢true, and-tru
 use lib.Dec.{eqb, leb, ltb}
 use borrow.Author.Tests.{eqb-true}
 use Rattle.rules.proofs.Choice.{and-l, and-r}
+use Rattle.rules.proofs.Guards.{stopped-at, went-on}
 use Rattle.rules.specs.declared.Scan.{Scan}
 use Rattle.rules.specs.declared.Feed.{Feed}
 use Rattle.rules.specs.declared.Feeder.{Feeder}
@@ -12,7 +13,9 @@ use Rattle.rules.specs.declared.Job.{Job}
 use Rattle.rules.specs.declared.Side.{Side}
 use Rattle.rules.specs.declared.Ring.{Ring}
 use Rattle.rules.specs.declared.Settings.{Settings}
-use Rattle.rules.specs.Record.{every, idle, scanning, finishing, busy, on, marked, mostRing, idlePoints, ringPoints, feederPoints, markPoints}
+use Rattle.rules.specs.declared.Record.{Record}
+use Rattle.rules.specs.Record.{every, idle, scanning, finishing, busy, on, marked, counted, lastSide, mostRing, sound}
+use Rattle.rules.specs.Record.{idlePoints, heldPoints, ringPoints, feederPoints, markPoints}
 
 apart : (s : Scan) → scanning s ≡ true → finishing s ≡ false
 apart Scan.Idle e = refl
@@ -28,6 +31,9 @@ module _ (s : Scan) (j : Job) (d : Side) where
 
   pub idle-out : idle s ≡ false → not (eqb (j .held) 0) ≡ every (idlePoints s j d)
   idle-out e = simp (e, and-true)
+
+  pub held-in : idle s ≡ true → (leb (d .number) lastSide && counted (d .count)) ≡ every (heldPoints s j d)
+  held-in e = simp (e, and-true)
 
 module _ (s : Scan) (g : Ring) (n : ℕ) where
   abbrev inside : Bool
@@ -68,3 +74,33 @@ pub no-marks : (s : Scan) (t : Settings) (stop : ℕ) (f : Feeder) → (eqb stop
     ((marked (t .feeder) && marked (t .append)) && marked (f .tray)) ≡ every (markPoints s t stop f)
 no-marks s t stop f e =
     simp (eqb-true stop 0 (and-l (eqb stop 0) (eqb (f .path) 0) e), eqb-true (f .path) 0 (and-r (eqb stop 0) (eqb (f .path) 0) e), and-true)
+
+-- ---- the five points, each tested by `t`: one that fails settles it, whatever the others say; where the first four hold, the last
+-- decides
+module _ (r : Record) (n : ℕ) where
+  pub idle-fails : {t : Bool} → t ≡ every (idlePoints (r .scanner .state) (r .job) (r .side)) → not t ≡ true → false ≡ sound r n
+  unfolding sound
+  idle-fails e h = rw (stopped-at _ _ e h)
+
+  pub held-fails : {t : Bool} → t ≡ every (heldPoints (r .scanner .state) (r .job) (r .side)) → not t ≡ true → false ≡ sound r n
+  unfolding sound
+  held-fails e h = rw (stopped-at _ _ e h, and-false)
+
+  pub ring-fails : {t : Bool} → t ≡ every (ringPoints (r .scanner .state) (r .ring) n) → not t ≡ true → false ≡ sound r n
+  unfolding sound
+  ring-fails e h = rw (stopped-at _ _ e h, and-false)
+
+  pub feeder-fails : {t : Bool} → t ≡ every (feederPoints (r .scanner .state) (r .feeder .state) (r .settings) (r .side)) → not t ≡ true
+      → false ≡ sound r n
+  unfolding sound
+  feeder-fails e h = rw (stopped-at _ _ e h, and-false)
+
+  pub marks-decide : {i h g f m : Bool}
+      → i ≡ every (idlePoints (r .scanner .state) (r .job) (r .side)) → not i ≡ false
+      → h ≡ every (heldPoints (r .scanner .state) (r .job) (r .side)) → not h ≡ false
+      → g ≡ every (ringPoints (r .scanner .state) (r .ring) n) → not g ≡ false
+      → f ≡ every (feederPoints (r .scanner .state) (r .feeder .state) (r .settings) (r .side)) → not f ≡ false
+      → m ≡ every (markPoints (r .scanner .state) (r .settings) (r .job .stop) (r .feeder))
+      → m ≡ sound r n
+  unfolding sound
+  marks-decide ei ni eh nh eg ng ef nf em = rw (went-on _ _ ei ni, went-on _ _ eh nh, went-on _ _ eg ng, went-on _ _ ef nf) em

@@ -1,7 +1,7 @@
--- `fetch::fetch`: each return walks the call's refusals up to the test that answered (`Leads`).
+-- `fetch::fetch`: each return walks the call's refusals up to the test that answered (`Leads`); what is left is the effect (`Handed`).
+use mathlib.Core.Path.{_∙_}
 use borrow.Author.Needs.{needs}
-use Rattle.fetch.proofs.Handed.{picture-read}
-use Rattle.fetch.specs.Reply.{replyWith, noted}
+use Rattle.fetch.proofs.Handed.{handed}
 use Rattle.rules.proofs.Sound.{to-sound}
 use Rattle.rules.proofs.Guards.{went-on}
 use Rattle.answers.proofs.Leads.{leads, accept, hit, skip, tests}
@@ -37,11 +37,11 @@ same-length : tie.Need-same-length
 same-length c = search needs
 
 returns-4 : tie.Need-returns-4
-unfolding step refusals scanRefusals effect scanEffect noted replyWith
+unfolding step refusals scanRefusals
 returns-4 c =
     let now = c .before .before in
-    rw (now .fetch-now .ensures .0, now .fetch-now .ensures .1)
-    (rw (picture-read _ _ _ _) (leads (skip (search tests) (skip (search tests) (skip (search tests) accept)))))
+    handed _ _ _ _ _ (now .fetch-now .ensures .0) (now .fetch-now .ensures .1)
+    ∙ leads (skip (search tests) (skip (search tests) (skip (search tests) accept)))
 
 pub fetch-spec : {M : Type 1} → statement M
 fetch-spec =

@@ -1,8 +1,8 @@
--- `report::bytes`: each return walks the call's refusals up to the test that answered (`Leads`).
+-- `report::bytes`: each return walks the call's refusals up to the test that answered (`Leads`, `Room`).
 use borrow.Author.Needs.{needs}
-use Rattle.report.proofs.Room.{no-room, some-room, room-left}
-use Rattle.rules.proofs.Guards.{went-on, stopped-at}
-use Rattle.answers.proofs.Leads.{leads, accept, hit, skip, tests, through-not}
+use Rattle.report.proofs.Room.{room-left, told-full, told-stored}
+use Rattle.rules.proofs.Guards.{went-on}
+use Rattle.answers.proofs.Leads.{leads, hit, skip, tests}
 use Rattle.rules.specs.Machine.{step, refusals, reportRefusals, effect, reportEffect}
 use Rattle.report.proofs.bytes.Statement.{statement}
 use Rattle.report.proofs.bytes.Tie as tie
@@ -28,17 +28,12 @@ same-length : tie.Need-same-length
 same-length c = search needs
 
 returns-3 : tie.Need-returns-3
-unfolding step refusals reportRefusals effect reportEffect
 returns-3 c =
     let put = c .before .before .before in
     let second = put .before .before in
     let first = second .before .before in
-    let sound = went-on _ _ (first .before .is-sound .ensures) (first .if1 .left) in
-    let passed = through-not (first .before .is-sound .ensures) (first .if1 .left) in
-    let scans = through-not (second .before .is-scanning .ensures) (second .if2 .left) in
-    let full = no-room _ _ _ _ sound (put .put-in .ensures .0) (c .if3 .taken) in
-    rw (put .put-in .ensures .1, stopped-at _ _ (put .put-in .ensures .0) (c .if3 .taken))
-    (leads (skip passed (skip scans (hit full))))
+    told-full _ _ _ (first .before .is-sound .ensures) (first .if1 .left) (second .before .is-scanning .ensures) (second .if2 .left)
+    (put .put-in .ensures .0) (put .put-in .ensures .1) (c .if3 .taken)
 
 fuller-requires : tie.Need-fuller-requires
 fuller-requires c κs =
@@ -52,17 +47,12 @@ same-length-2 : tie.Need-same-length-2
 same-length-2 c = search needs
 
 returns-4 : tie.Need-returns-4
-unfolding step refusals reportRefusals effect reportEffect
 returns-4 c =
     let put = c .before .before .before .before in
     let second = put .before .before in
     let first = second .before .before in
-    let sound = went-on _ _ (first .before .is-sound .ensures) (first .if1 .left) in
-    let passed = through-not (first .before .is-sound .ensures) (first .if1 .left) in
-    let scans = through-not (second .before .is-scanning .ensures) (second .if2 .left) in
-    let room = some-room _ _ _ _ sound (put .put-in .ensures .0) (c .before .if3 .left) in
-    rw (c .fuller .ensures, put .put-in .ensures .1, went-on _ _ (put .put-in .ensures .0) (c .before .if3 .left))
-    (leads (skip passed (skip scans (skip room accept))))
+    told-stored _ _ _ (first .before .is-sound .ensures) (first .if1 .left) (second .before .is-scanning .ensures) (second .if2 .left)
+    (put .put-in .ensures .0) (put .put-in .ensures .1) (c .before .if3 .left) (c .fuller .ensures)
 
 pub bytes-spec : {M : Type 1} → statement M
 bytes-spec =

@@ -1,7 +1,7 @@
--- `state::held_sound`: in Idle and outside it, the tests that are left.
+-- `state::held_sound`: in Idle and outside it, the tests that are left (`Points`).
 use borrow.Author.Needs.{needs}
 use mathlib.Core.Path.{sym, _∙_}
-use mathlib.Core.Bool.{and-true}
+use Rattle.state.proofs.Points.{held-in}
 use Rattle.state.proofs.held_sound.Statement.{statement}
 use Rattle.state.proofs.held_sound.Tie as tie
 
@@ -9,7 +9,9 @@ is-idle-requires : tie.Need-is-idle-requires
 is-idle-requires c κs = search needs
 
 returns : tie.Need-returns
-returns c = simp (sym (c .before .is-idle .ensures) ∙ c .if1 .taken, and-true)
+returns c =
+    let args = c .before .before .before .before .before .args in
+    held-in (args .s) (args .j) (args .d) (sym (c .before .is-idle .ensures) ∙ c .if1 .taken)
 
 limit-of-requires : tie.Need-limit-of-requires
 limit-of-requires c κs = search needs
