@@ -1,8 +1,9 @@
 //! A start record, a ring and what is done with them: all that a difference depends on.
 
-use crate::pair::{Came, Difference, Pair, LINES_ROOM};
+use crate::pair::{Pair, LINES_ROOM};
 use crate::rng::Rng;
 use crate::streams::{fetch, kind, whole};
+use crate::wire::{Came, Difference};
 use crate::words::{present_name, Words, JOB};
 use peer::Record;
 use std::panic::{catch_unwind, AssertUnwindSafe};
@@ -86,7 +87,18 @@ impl Item {
 }
 
 impl Case {
-    /// Runs the case. The text of both sides, which agree, goes to text.
+    /// Runs the case by itself, to its end: the first difference that it shows.
+    pub fn try_alone(&self, pair: &mut Pair) -> Option<Found> {
+        pair.forget();
+        let outcome = self.run(pair, &mut Vec::new());
+        if outcome.is_err() {
+            pair.forget();
+            return outcome.err();
+        }
+        pair.settle().map(|shown| Found { at: shown.at, difference: shown.difference })
+    }
+
+    /// Runs the case. The peer's text goes to text; where the box has another one, that shows when they are compared.
     pub fn run(&self, pair: &mut Pair, text: &mut Vec<u8>) -> Result<(), Found> {
         match self.how {
             How::Calls => self.run_calls(pair, text),
@@ -99,7 +111,7 @@ impl Case {
         for (at, item) in self.items.iter().enumerate() {
             run_call(pair, &item.call).map_err(|difference| Found { at, difference })?;
             if !matches!(item.call, Call::Tick | Call::Ask) {
-                text.extend_from_slice(pair.text(false));
+                text.extend_from_slice(pair.text());
             }
         }
         Ok(())
@@ -121,6 +133,7 @@ impl Case {
     ) -> Result<(), Found> {
         let input = self.joined();
         let from = text.len();
+        pair.hold(&input);
         pair.reset(&self.words, self.ring_length, self.fill);
         let mut windows = 0;
         match cut {
@@ -132,7 +145,7 @@ impl Case {
         if cut.is_none() {
             return Ok(());
         }
-        let (words, ring) = (pair.words(), pair.ring(false).to_vec());
+        let (words, ring) = (pair.words(), pair.ring().to_vec());
         pair.reset(&self.words, self.ring_length, self.fill);
         let mut whole_text = Vec::new();
         serve_whole(pair, &input, base, &mut whole_text, &mut windows, &mut trace)?;
@@ -143,7 +156,7 @@ impl Case {
         if words != pair.words() {
             return Err(found("the record after the cut stream is not that after the whole one"));
         }
-        if ring != pair.ring(false) {
+        if ring != pair.ring() {
             return Err(found("the ring after the cut stream is not that after the whole one"));
         }
         Ok(())
@@ -193,14 +206,15 @@ fn serve_one(
     trace: &mut Trace,
 ) -> Result<(), Found> {
     let Window { from, length, last, room, .. } = *window;
-    let outcome = pair.serve(&input[from..from + length], base.wrapping_add(from as u64), last, room);
-    window.came = pair.last[0];
+    let offset = base.wrapping_add(from as u64);
+    let outcome = pair.serve_window(&input[from..from + length], Some(from), offset, last, room);
+    window.came = pair.came;
     if let Some(trace) = trace {
         trace.push(*window);
     }
     outcome.map_err(|difference| Found { at: *windows, difference })?;
     *windows += 1;
-    text.extend_from_slice(pair.text(false));
+    text.extend_from_slice(pair.text());
     Ok(())
 }
 
@@ -214,7 +228,7 @@ fn serve_whole(
 ) -> Result<(), Found> {
     // Room for all lines: 64 bytes for each record, and two for each byte that the input or the ring brings.
     let records = input.len() / 4 + 1;
-    let room = (64 * records + 2 * input.len() + 2 * pair.ring_length() + 1280).min(LINES_ROOM);
+    let room = (64 * records + 2 * input.len() + 2 * pair.ring().len() + 1280).min(LINES_ROOM);
     let mut from = 0;
     loop {
         let mut window = Window { from, length: input.len() - from, last: true, room, came: Came::default() };

@@ -1,8 +1,9 @@
 //! The shortest case that still shows a difference.
 
 use crate::case::{run_call, usual, Call, Case, Found, How, Item, Role};
-use crate::pair::{hex, show_text, words_text, Pair};
+use crate::pair::{Pair, NOT_ASKED};
 use crate::streams::{fetch, job_call, kind, record, start, start_scan, whole};
+use crate::wire::{hex, show_text, words_text, Difference};
 use crate::words::{is_sound, Words, FRESH, JOB, LAST_JOB, NAMES, SIDE_NUMBER};
 use std::time::{Duration, Instant};
 
@@ -465,26 +466,29 @@ impl<'a> Shrinker<'a> {
     }
 }
 
-/// Shrinks a case that both boxes run in this process.
-pub fn shrink(case: &Case, pair: &mut Pair) -> Option<(Case, Found, usize)> {
-    let mut text = Vec::new();
-    let try_case = Box::new(move |case: &Case| {
-        text.clear();
-        case.run(pair, &mut text).err()
-    });
-    Some(Shrinker::new(case, try_case)?.shrink())
-}
-
-/// Prints what differs and the shortest case that shows it.
-pub fn tell(case: &Case, pair: &mut Pair) {
-    let Some((short, found, tries)) = shrink(case, pair) else {
-        println!("  (the difference does not show again when the case is run by itself)");
+/// Prints what differs and the shortest case that shows it. Where the case does not show it by itself, it is told as it
+/// was found.
+pub fn tell(case: &Case, pair: &mut Pair, difference: &Difference) {
+    let try_case = Box::new(|case: &Case| case.try_alone(pair));
+    let shrunk = Shrinker::new(case, try_case).map(Shrinker::shrink);
+    let Some((short, found, tries)) = shrunk else {
+        tell_difference(difference);
+        if !case.items.is_empty() {
+            println!(
+                "  (the difference does not show again when the case is run by itself; the case, of {} calls:)",
+                case.items.len()
+            );
+            tell_start(case);
+            for item in case.items.iter().take(if case.how == How::Calls { LONG } else { 0 }) {
+                println!("    call: {}", shape(&item.call));
+            }
+        }
         return;
     };
-    println!("  what differs: {}", found.difference.what);
-    println!("    proved: {}", found.difference.proved);
-    println!("    peer:   {}", found.difference.peer);
+    tell_difference(&found.difference);
     println!("  the shortest case that shows it, of {} calls ({tries} tries):", short.items.len());
+    pair.forget();
+    pair.at_once = true;
     tell_start(&short);
     match short.how {
         How::Calls => tell_calls(&short, pair),
@@ -495,6 +499,13 @@ pub fn tell(case: &Case, pair: &mut Pair) {
         tell_start(&one);
         tell_calls(&one, pair);
     }
+    pair.at_once = false;
+}
+
+fn tell_difference(difference: &Difference) {
+    println!("  what differs: {}", difference.what);
+    println!("    proved: {}", difference.proved);
+    println!("    peer:   {}", difference.peer);
 }
 
 /// Of a long case, the last call from the record that it finds, if it shows a difference by itself.
@@ -527,6 +538,32 @@ pub fn tell_start(case: &Case) {
     }
 }
 
+fn shape(call: &Call) -> String {
+    match call {
+        Call::Tick => "tick".to_string(),
+        Call::Ask => "ask".to_string(),
+        Call::Perform { input, offset, reply, room } => {
+            format!("perform {} offset {offset} reply {reply} room {room}", hex(input))
+        }
+        Call::Serve { input, offset, last, room } => {
+            format!("serve {} offset {offset} last {last} room {room}", hex(input))
+        }
+    }
+}
+
+/// What each side came to in the last call, and its text.
+fn tell_sides(pair: &Pair, words: &str) {
+    for (answer, side) in pair.seen.iter().zip(["proved", "peer  "]) {
+        println!("      {words}{side}: {}; {}", answer.came, show_text(&answer.text));
+    }
+}
+
+fn tell_words(pair: &Pair) {
+    for (answer, side) in pair.seen.iter().zip(["proved:", "peer:  "]) {
+        println!("      words  {side} {}", words_text(&answer.words));
+    }
+}
+
 fn tell_calls(case: &Case, pair: &mut Pair) {
     pair.reset(&case.words, case.ring_length, case.fill);
     let mut place = 0;
@@ -539,32 +576,18 @@ fn tell_calls(case: &Case, pair: &mut Pair) {
             outcome = run_call(pair, call);
             times += 1;
         }
-        let shape = match call {
-            Call::Tick => "tick".to_string(),
-            Call::Ask => "ask".to_string(),
-            Call::Perform { input, offset, reply, room } => {
-                format!("perform {} offset {offset} reply {reply} room {room}", hex(input))
-            }
-            Call::Serve { input, offset, last, room } => {
-                format!("serve {} offset {offset} last {last} room {room}", hex(input))
-            }
-        };
-        println!(
-            "    call {}: {shape}{}",
-            place + 1,
-            if times > 1 { format!("  ({times} times)") } else { String::new() }
-        );
-        let text = !matches!(call, Call::Tick | Call::Ask);
-        for (peer, side) in [(false, "proved"), (true, "peer  ")] {
-            let said = if text { show_text(pair.text(peer)) } else { String::new() };
-            println!("      {side}: {}; {said}", pair.last[peer as usize]);
+        let times_text = if times > 1 { format!("  ({times} times)") } else { String::new() };
+        println!("    call {}: {}{times_text}", place + 1, shape(call));
+        if outcome.as_ref().is_err_and(|difference| difference.proved == NOT_ASKED) {
+            return;
         }
+        tell_sides(pair, "");
         if outcome.is_err() {
-            println!("      words  proved: {}", words_text(&pair.words()));
-            println!("      words  peer:   {}", words_text(&pair.peer_words()));
-            if pair.reply(false) != pair.reply(true) {
-                println!("      reply  proved: {}", hex(pair.reply(false)));
-                println!("      reply  peer:   {}", hex(pair.reply(true)));
+            tell_words(pair);
+            let [proved, peer] = &pair.seen;
+            if proved.reply != peer.reply {
+                println!("      reply  proved: {}", hex(&proved.reply));
+                println!("      reply  peer:   {}", hex(&peer.reply));
             }
             return;
         }
@@ -590,8 +613,6 @@ fn tell_windows(case: &Case, pair: &mut Pair, cut: Option<u64>, base: u64) {
         );
     }
     println!("      text so far:   {}", show_text(&text));
-    println!("      window proved: {}; {}", pair.last[0], show_text(pair.text(false)));
-    println!("      window peer:   {}; {}", pair.last[1], show_text(pair.text(true)));
-    println!("      words  proved: {}", words_text(&pair.words()));
-    println!("      words  peer:   {}", words_text(&pair.peer_words()));
+    tell_sides(pair, "window ");
+    tell_words(pair);
 }

@@ -6,12 +6,15 @@
 //! far. Exit 0: all agree. Exit 1: something differs, and the shortest stream that shows it is printed; or something
 //! that the paper allows is not reached. One part can be run alone, and from a given case on.
 //!
+//! BENCH_BOX_TRIAL names the box program, built from box.c and the library, or a program that runs it; BENCH_BOX_DESK
+//! and PEER_DESK name the two desk programs.
+//!
 //! Built with panics that unwind, a peer that panics is told and shrunk like any other difference.
 
 use std::process::ExitCode;
 use std::sync::atomic::Ordering;
 use std::time::{Duration, Instant};
-use trials::pages;
+use trials::pair::{Pair, PLACE};
 use trials::parts::{damage, desks, memory, single, stored, streams, Differs, Trial};
 
 const USAGE: &str = "differ [SECONDS] [--seed N] [--part P] [--from CASE]";
@@ -21,7 +24,7 @@ type Part = fn(&mut Trial, Duration) -> Result<(), Differs>;
 
 /// The parts with their shares of the time, in a hundred.
 const PARTS: [(Part, u32); 6] =
-    [(streams::run, 38), (damage::run, 14), (single::run, 18), (stored::run, 18), (memory::run, 5), (desks::run, 7)];
+    [(streams::run, 34), (damage::run, 16), (single::run, 18), (stored::run, 18), (memory::run, 5), (desks::run, 9)];
 
 struct Arguments {
     seconds: f64,
@@ -46,9 +49,9 @@ fn arguments() -> Option<Arguments> {
 
 /// The peer's panics that unwind are caught where it is called. Others are told with the case that they come in.
 fn tell_panic(panic: &std::panic::PanicHookInfo) {
-    let ours = panic.location().is_some_and(|place| place.file().contains("trials"));
-    if ours || cfg!(panic = "abort") {
-        let [part, case, seed] = pages::PLACE.each_ref().map(|place| place.load(Ordering::Relaxed));
+    let peers = panic.location().is_some_and(|place| place.file().contains("peer/src/"));
+    if !peers || cfg!(panic = "abort") {
+        let [part, case, seed] = PLACE.each_ref().map(|place| place.load(Ordering::Relaxed));
         println!("\nDIFFERENCE: a panic in part {part}, case {case}, seed {seed}: {panic}");
     }
 }
@@ -58,10 +61,20 @@ fn main() -> ExitCode {
         eprintln!("{USAGE}");
         return ExitCode::from(2);
     };
-    pages::tell_touches();
     std::panic::set_hook(Box::new(tell_panic));
+    let Ok(program) = std::env::var("BENCH_BOX_TRIAL") else {
+        eprintln!("differ: BENCH_BOX_TRIAL does not name the box program");
+        return ExitCode::from(2);
+    };
+    let pair = match Pair::start(&program) {
+        Ok(pair) => pair,
+        Err(error) => {
+            eprintln!("differ: {program}: {error}");
+            return ExitCode::from(2);
+        }
+    };
     let begun = Instant::now();
-    let mut trial = Trial::new(seed, first);
+    let mut trial = Trial::new(pair, seed, first);
     for (place, (run, share)) in PARTS.into_iter().enumerate() {
         if part.is_some_and(|part| part != place + 1) {
             continue;

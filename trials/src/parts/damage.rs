@@ -21,16 +21,15 @@ pub fn run(trial: &mut Trial, time: Duration) -> Result<(), Differs> {
     let mut text = Vec::new();
     while streams < LEAST || Instant::now() < until {
         let number = trial.first + streams;
-        trial.at(2, number);
+        trial.at("2, damage", number);
         let case = damaged(trial, number);
         text.clear();
-        if case.run(&mut trial.pair, &mut text).is_err() {
-            return Err(trial.tell("2, damage", number, &case));
-        }
+        trial.run(case, &mut text)?;
         trial.tally.note_text(&text);
         streams += 1;
         bytes += text.len();
     }
+    trial.settle()?;
     println!(
         "part 2, damage: {heads} heads with every kind and length, {streams} damaged streams ({} end in bad), \
          {bytes} bytes of text; {}",
@@ -50,7 +49,7 @@ fn every_head(trial: &mut Trial) -> Result<u64, Differs> {
             record.resize(4 + length as usize + 1, 0x5A);
             for bytes in [4 + length as usize, 3 + length as usize, 5 + length as usize] {
                 heads += 1;
-                trial.at(2, heads);
+                trial.at("2, heads", heads);
                 let whole = Case {
                     words: FRESH,
                     ring_length: 16,
@@ -65,11 +64,8 @@ fn every_head(trial: &mut Trial) -> Result<u64, Differs> {
                     how: How::Calls,
                     ..whole.clone()
                 };
-                for case in [whole, waiting] {
-                    if case.run(&mut trial.pair, &mut text).is_err() {
-                        return Err(trial.tell("2, heads", heads, &case));
-                    }
-                }
+                trial.run(whole, &mut text)?;
+                trial.run(waiting, &mut text)?;
             }
             text.clear();
         }
@@ -80,7 +76,7 @@ fn every_head(trial: &mut Trial) -> Result<u64, Differs> {
                 let head = [first, second, kind];
                 for length in 0..=3 {
                     heads += 1;
-                    trial.at(2, heads);
+                    trial.at("2, short heads", heads);
                     for last in [false, true] {
                         let call = Call::Serve { input: head[..length].to_vec(), offset: 7, last, room: 640 };
                         let case = Case {
@@ -90,9 +86,7 @@ fn every_head(trial: &mut Trial) -> Result<u64, Differs> {
                             items: vec![usual(head[..length].to_vec()), Item { call, role: Role::AsIs }],
                             how: How::Calls,
                         };
-                        if case.run(&mut trial.pair, &mut text).is_err() {
-                            return Err(trial.tell("2, short heads", heads, &case));
-                        }
+                        trial.run(case, &mut text)?;
                     }
                 }
             }

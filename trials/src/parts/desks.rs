@@ -3,10 +3,10 @@
 use super::damage::{damage, pieces};
 use super::{Differs, Trial};
 use crate::case::{Case, Found, How};
-use crate::pair::{hex, show_text, Difference};
 use crate::rng::Rng;
 use crate::shrink::Shrinker;
 use crate::streams::{stream, Mix};
+use crate::wire::{hex, show_text, Difference};
 use crate::words::FRESH;
 use std::io::{self, Read, Write};
 use std::process::{Command, Stdio};
@@ -31,7 +31,7 @@ pub fn run(trial: &mut Trial, time: Duration) -> Result<(), Differs> {
     let (mut streams, mut bytes, mut longest) = (0, 0, 0);
     while streams < LEAST || (streams < MOST && Instant::now() < until) {
         let number = trial.first + streams;
-        trial.at(6, number);
+        trial.at("6, desk programs, the streams themselves", number);
         let (input, piece) = some_input(trial.seed, number);
         let case = Case {
             words: FRESH,
@@ -41,9 +41,7 @@ pub fn run(trial: &mut Trial, time: Duration) -> Result<(), Differs> {
             how: How::Windows { cut: None, base: 0 },
         };
         let mut text = Vec::new();
-        if case.run(&mut trial.pair, &mut text).is_err() {
-            return Err(trial.tell("6, desk programs, in this process", number, &case));
-        }
+        trial.run(case.clone(), &mut text)?;
         if let Some(difference) = differ(&ours, &theirs, &input, piece, Some(&text)) {
             return Err(tell(trial, number, &case, piece, &ours, &theirs, difference));
         }
@@ -52,6 +50,7 @@ pub fn run(trial: &mut Trial, time: Duration) -> Result<(), Differs> {
         bytes += text.len();
         longest = longest.max(input.len());
     }
+    trial.settle()?;
     println!(
         "part 6, desk programs: {streams} streams through both, the longest of {longest} bytes, in pieces from 1 byte \
          up, {bytes} bytes of text alike; {:.1} seconds",

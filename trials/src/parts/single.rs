@@ -21,10 +21,11 @@ pub fn run(trial: &mut Trial, time: Duration) -> Result<(), Differs> {
     let mut replies = [0u64; 601];
     while walks < LEAST || Instant::now() < until {
         let number = trial.first + walks;
-        trial.at(3, number);
+        trial.at("3, one at a time", number);
         walk(trial, number, &mut replies)?;
         walks += 1;
     }
+    trial.settle()?;
     let edges = (0..=8).chain(255..=260);
     let least = edges.map(|length| replies[length]).min().unwrap_or(0);
     println!(
@@ -59,7 +60,7 @@ fn every_fetch(trial: &mut Trial) -> Result<u64, Differs> {
                     for reply in (0..=8).chain(254..=260).chain([600]) {
                         for most in [0, 1, 2, 3, 4, 250, 251, 252, 254, 255] {
                             fetches += 1;
-                            trial.at(3, fetches);
+                            trial.at("3, fetches", fetches);
                             let record = fetch(most, &present_name(&words));
                             let call = Call::Perform { input: record, offset: 0, reply, room: 640 };
                             let case = Case {
@@ -70,9 +71,7 @@ fn every_fetch(trial: &mut Trial) -> Result<u64, Differs> {
                                 how: How::Calls,
                             };
                             text.clear();
-                            if case.run(&mut trial.pair, &mut text).is_err() {
-                                return Err(trial.tell("3, fetches", fetches, &case));
-                            }
+                            trial.run(case, &mut text)?;
                             trial.tally.note_text(&text);
                         }
                     }
@@ -107,17 +106,17 @@ fn walk(trial: &mut Trial, number: u64, replies: &mut [u64; 601]) -> Result<(), 
         let spoke = !matches!(call, Call::Tick | Call::Ask);
         case.items.push(Item { call, role: Role::AsIs });
         if outcome.is_err() {
-            return Err(trial.tell("3, one at a time", number, &case));
+            return trial.follow(outcome, case, None);
         }
         if spoke {
-            trial.tally.note_text(trial.pair.text(false));
+            trial.tally.note_text(trial.pair.text());
         }
         match trial.pair.record() {
             Some(record) => guide.see(record),
             None => break,
         }
     }
-    Ok(())
+    trial.follow(Ok(()), case, None)
 }
 
 fn some_call(rng: &mut Rng, mut input: Vec<u8>) -> Call {

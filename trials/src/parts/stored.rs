@@ -3,9 +3,9 @@
 use super::streams::some_offset;
 use super::{Differs, Trial};
 use crate::case::{run_call, Call, Case, How, Item, Role};
-use crate::pair::Difference;
 use crate::rng::Rng;
 use crate::streams::{near_wrap, ring_length, sound_words, Guide, Mix};
+use crate::wire::Difference;
 use crate::words::*;
 use peer::Record;
 use std::time::{Duration, Instant};
@@ -72,11 +72,12 @@ pub fn run(trial: &mut Trial, time: Duration) -> Result<(), Differs> {
     let mut counts = Counts::default();
     while counts.bases < LEAST || Instant::now() < until {
         let number = trial.first + counts.bases;
-        trial.at(4, number);
+        trial.at("4, any record", number);
         let mut rng = Rng::nth(trial.seed ^ 0x0400, number);
         changes(trial, &mut rng, &mut counts)?;
         counts.bases += 1;
     }
+    trial.settle()?;
     println!(
         "part 4, any record: {} sound records and their changes, {} records tried ({} sound, {} not, of these {} no \
          record); {}",
@@ -221,36 +222,30 @@ fn attempt(trial: &mut Trial, rng: &mut Rng, counts: &mut Counts, words: &Words,
             room,
         },
     ];
-    let fill = counts.tried;
+    // The ring is the same for all changes of a record, so that it is filled once.
+    let fill = counts.bases;
     for (place, call) in calls.into_iter().enumerate() {
         // What 604 leaves needs no reset, except that the ring of one call is watched against the reset.
         if place == 0 || sound {
             trial.pair.reset(words, length, fill);
         }
         let outcome = run_call(&mut trial.pair, &call).and_then(|()| expect(trial, &call, sound));
-        if outcome.is_err() {
-            let case = Case {
-                words: *words,
-                ring_length: length,
-                fill,
-                items: vec![Item { call, role: Role::AsIs }],
-                how: How::Calls,
-            };
-            return Err(trial.tell("4, any record", trial.first + counts.bases, &case));
-        }
+        let items = vec![Item { call, role: Role::AsIs }];
+        let case = Case { words: *words, ring_length: length, fill, items, how: How::Calls };
+        trial.follow(outcome, case, None)?;
     }
     Ok(())
 }
 
 /// What is not sound is 604, what is sound is not; the tally gets the kind.
 fn expect(trial: &mut Trial, call: &Call, sound: bool) -> Result<(), Difference> {
-    let number = trial.pair.last[0].number;
+    let number = trial.pair.came.number;
     if *call != Call::Ask && sound == (number == 604) {
         return Err(Difference::new("604", number.to_string(), format!("sound {sound}")));
     }
     match call {
         Call::Perform { input, .. } if number == 604 => trial.tally.note(input[2], 604),
-        Call::Perform { .. } | Call::Serve { .. } => trial.tally.note_text(trial.pair.text(false)),
+        Call::Perform { .. } | Call::Serve { .. } => trial.tally.note_text(trial.pair.text()),
         _ => {}
     }
     Ok(())

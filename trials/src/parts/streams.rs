@@ -3,9 +3,9 @@
 use super::damage::pieces;
 use super::{Differs, Trial};
 use crate::case::{usual, Case, How};
-use crate::pair::show_text;
 use crate::rng::Rng;
 use crate::streams::{near_wrap, ring_length, sound_words, Guide, Mix};
+use crate::wire::show_text;
 use crate::words::{Words, FRESH};
 use peer::Record;
 use std::time::{Duration, Instant};
@@ -21,17 +21,16 @@ pub fn run(trial: &mut Trial, time: Duration) -> Result<(), Differs> {
     example(trial)?;
     while streams < LEAST || Instant::now() < until {
         let number = trial.first + streams;
-        trial.at(1, number);
+        trial.at("1, streams", number);
         let case = guided(trial, number);
         text.clear();
-        if case.run(&mut trial.pair, &mut text).is_err() {
-            return Err(trial.tell("1, streams", number, &case));
-        }
+        records += case.items.len();
+        trial.run(case, &mut text)?;
         trial.tally.note_text(&text);
         streams += 1;
-        records += case.items.len();
         bytes += text.len();
     }
+    trial.settle()?;
     println!(
         "part 1, streams: {streams} streams of {records} records, each cut and whole, {bytes} bytes of text; {}",
         trial.since(&count)
@@ -51,9 +50,9 @@ fn example(trial: &mut Trial) -> Result<(), Differs> {
     let how = How::Windows { cut: Some(1), base: 0 };
     let case = Case { words: FRESH, ring_length: 4096, fill: 0, items: pieces(EXAMPLE), how };
     let mut text = Vec::new();
-    if case.run(&mut trial.pair, &mut text).is_err() {
-        return Err(trial.tell("1, the paper's example", 0, &case));
-    }
+    trial.at("1, the paper's example", 0);
+    trial.run(case, &mut text)?;
+    trial.settle()?;
     if text != EXAMPLE_TEXT {
         println!("\nDIFFERENCE: both boxes print {} for the paper's example", show_text(&text));
         return Err(Differs);

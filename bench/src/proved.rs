@@ -47,7 +47,6 @@ pub mod c {
             lines_length: usize,
             progress: *mut Progress,
         ) -> u16;
-        pub fn bench_box_ask(words: *const Box, ring_length: usize, question: usize) -> u64;
     }
 }
 
@@ -116,10 +115,5 @@ impl Box {
             )
         };
         (n, p)
-    }
-
-    #[inline]
-    pub fn ask(&self, ring_length: usize, question: usize) -> u64 {
-        unsafe { c::bench_box_ask(self, ring_length, question) }
     }
 }

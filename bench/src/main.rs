@@ -5,6 +5,8 @@
 //!
 //! IDLE is a program that only reads its standard input: it shows what the C library alone takes.
 
+mod proved;
+
 use std::fs::{self, File};
 use std::hint::black_box;
 use std::io::{self, BufWriter, Write};
@@ -13,7 +15,6 @@ use std::process::{Child, Command, ExitCode, Stdio};
 use std::time::Duration;
 
 use peer::kind;
-use trials::proved;
 
 /// The desk program's ring, the longest ring, a reply that shortens no fetch, room for any line.
 const RING: usize = 4096;
@@ -579,10 +580,8 @@ impl Works {
 
 fn print_library(effort: &Effort) {
     let mut works = Works::default();
-    let serve = [
-        ("pictures", works.stream(Stream::Pictures, 4_000)),
-        ("control calls", works.stream(Stream::Control, 60_000)),
-    ];
+    let serve =
+        [("pictures", works.stream(Stream::Pictures, 4_000)), ("control calls", works.stream(Stream::Control, 60_000))];
     let perform: Vec<_> = cases().into_iter().map(|case| (case.name, works.performed(&case, RING))).collect();
     let tick = [("Idle", works.ticked(&[], RING)), ("a job is held", works.ticked(&held(), RING))];
     let pictures = PictureWorks::add(&mut works);
@@ -680,13 +679,7 @@ fn text_of<B: Bench>(input: &[u8]) -> Vec<u8> {
 
 /// Serves as a host does: a window of the input, as many times as its lines need, then the next window from the first
 /// record on that is not answered.
-fn serve_all<B: Bench>(
-    the_box: &mut B,
-    ring: &mut [u8],
-    input: &[u8],
-    lines: &mut [u8],
-    mut say: impl FnMut(&[u8]),
-) {
+fn serve_all<B: Bench>(the_box: &mut B, ring: &mut [u8], input: &[u8], lines: &mut [u8], mut say: impl FnMut(&[u8])) {
     let mut place = 0;
     while place < input.len() {
         let end = input.len().min(place + WINDOW);

@@ -1,0 +1,333 @@
+/*
+ * Wrong boxes, to show that differ finds them. This stands between box.c and the library: box.c is compiled with the
+ * library's names turned into those here. BENCH_BOX_BROKEN names the wrong; trials/broken builds and runs it.
+ */
+#include "bench_box.h"
+
+#include <stdio.h>
+#include <stdlib.h>
+#include <string.h>
+#include <unistd.h>
+
+/* Each has a line of its own: trials/broken reads it. */
+#define WRONGS(X)                                                                                                      \
+    X(none)               /* the box as it is: agrees */                                                               \
+    X(tick_300)           /* a second is not counted at 299 quiet ones */                                              \
+    X(before_ring)        /* the byte before the ring changes */                                                       \
+    X(behind_ring)        /* the byte behind the ring changes */                                                       \
+    X(before_reply)       /* the byte before the reply changes */                                                      \
+    X(behind_reply)       /* the byte behind the reply changes */                                                      \
+    X(before_lines)       /* the byte before the lines changes */                                                      \
+    X(behind_lines)       /* the byte behind the lines changes */                                                      \
+    X(behind_record)      /* the byte behind the record changes */                                                     \
+    X(behind_text)        /* a byte behind the text changes */                                                         \
+    X(end_of_lines)       /* the last byte of long lines changes */                                                    \
+    X(reads_past_input)   /* a byte behind the input is read */                                                        \
+    X(reads_before_input) /* a byte before the input is read */                                                        \
+    X(reads_past_record)  /* a word behind the record is read by a question */                                         \
+    X(writes_input)       /* the input is written, with what it has */                                                 \
+    X(writes_asked)       /* a question writes the record, with what it has */                                         \
+    X(ended_unwritten)    /* ended is not written where it is 0 */                                                     \
+    X(unsound_counts)     /* 604 changes a word */                                                                     \
+    X(unsound_reads)      /* 604 leaves read at 1 */                                                                   \
+    X(unsound_writes)     /* 604 changes the ring */                                                                   \
+    X(refused_replies)    /* a refused call writes in the reply */                                                     \
+    X(refused_sign)       /* a refused Stop is a sign of life */                                                       \
+    X(ring_elsewhere)     /* Bytes change another byte of the ring */                                                  \
+    X(asked_wrongly)      /* a question gets the wrong answer where a job is held */                                   \
+    X(asked_too_far)      /* question 18 gets an answer */                                                             \
+    X(asked_high)         /* question 2^32 is taken for 0 */                                                           \
+    X(longest_ring)       /* a ring of 65,536 is never quite full */                                                   \
+    X(destination_wrap)   /* DestinationID 4,294,967,295 goes to 1 */                                                  \
+    X(far_offset)         /* bad lines beyond 2^32 are off by one */                                                   \
+    X(lower_case)         /* a hex digit in lower case */                                                              \
+    X(not_last)           /* last is not heeded */                                                                     \
+    X(first_after_fetch)  /* the first GetState after a fetch is refused */                                            \
+    X(static_state)       /* the 20,000th call of all boxes changes a word */                                          \
+    X(null_input)         /* a NULL input is answered by nothing */                                                    \
+    X(null_reply)         /* a NULL reply is read */                                                                   \
+    X(loose_sound)        /* quiet may be as much as granted */                                                        \
+    X(fresh_keeps)        /* fresh keeps the tray */                                                                   \
+    X(load_713)           /* Load's 713 leaves the feeder as it was */                                                 \
+    X(aborts)             /* the program aborts at SideCount 999 */                                                    \
+    X(exits)              /* the program ends well at the 30,000th call */                                             \
+    X(prints)             /* the program prints */                                                                     \
+    X(hangs)              /* the program never returns where a side number is 500 */
+
+enum wrong {
+#define X(name) name,
+    WRONGS(X)
+#undef X
+};
+
+static const char *const names[] = {
+#define X(name) #name,
+    WRONGS(X)
+#undef X
+};
+
+enum { SCAN = 0, FEEDER = 2, JOB = 4, GRANTED = 8, QUIET = 9, SIDE_COUNT = 10, SIDE_NUMBER = 11 };
+enum { DESTINATION = 12, TRAY = 14, START = 16, STORED = 17 };
+enum { STOP = 0x03, FETCH = 0x06, GET_STATE = 0x07, LOAD = 0x10, BYTES = 0x20 };
+
+static enum wrong wrong(void)
+{
+    static int known = -1;
+    for (int place = 0; known < 0; place++) {
+        const char *name = getenv("BENCH_BOX_BROKEN");
+        if (name == NULL || place == sizeof names / sizeof names[0]) {
+            fputs("broken: BENCH_BOX_BROKEN names no wrong\n", stderr);
+            exit(2);
+        }
+        known = strcmp(name, names[place]) == 0 ? place : -1;
+    }
+    return (enum wrong)known;
+}
+
+static void touch(const volatile uint8_t *byte)
+{
+    (void)*byte;
+}
+
+/* What is wrong with any call of a box. */
+static void spoil_box(bench_box *box)
+{
+    static unsigned calls;
+    calls++;
+    if (wrong() == static_state && calls == 20000) {
+        box->words[DESTINATION] ^= 1;
+    } else if (wrong() == exits && calls == 30000) {
+        exit(0);
+    } else if (wrong() == aborts && box->words[SIDE_COUNT] == 999) {
+        abort();
+    } else if (wrong() == prints && calls == 1000) {
+        puts("here I am");
+        fflush(stdout);
+    } else if (wrong() == hangs && box->words[SIDE_NUMBER] == 500) {
+        pause();
+    } else if (wrong() == behind_record) {
+        ((volatile uint8_t *)(box + 1))[0] ^= 1;
+    }
+}
+
+/* Quiet as much as granted is sound for this one. */
+static void loosen(bench_box *box)
+{
+    if (wrong() == loose_sound && box->words[GRANTED] > 5 && box->words[QUIET] == box->words[GRANTED]) {
+        box->words[QUIET]--;
+    }
+}
+
+void broken_fresh(bench_box *box)
+{
+    uint64_t tray = box->words[TRAY];
+    bench_box_fresh(box);
+    if (wrong() == fresh_keeps) {
+        box->words[TRAY] = tray & 1;
+    }
+}
+
+uint16_t broken_tick(bench_box *box, size_t ring_length)
+{
+    loosen(box);
+    uint16_t number = bench_box_tick(box, ring_length);
+    spoil_box(box);
+    if (wrong() == tick_300 && number == 0 && box->words[QUIET] == 300) {
+        box->words[QUIET] = 299;
+    } else if (wrong() == unsound_counts && number == BENCH_BOX_UNSOUND) {
+        box->words[QUIET]++;
+    }
+    return number;
+}
+
+/* All that a call is lent, and the record before it. */
+struct lent {
+    bench_box *box, before;
+    uint8_t *ring;
+    size_t ring_length;
+    uint8_t *reply;
+    size_t reply_length;
+    const uint8_t *input;
+    size_t input_length;
+    uint64_t offset;
+    uint8_t *lines;
+    size_t lines_length;
+    bench_box_progress *progress, progress_before;
+};
+
+static void spoil_record(const struct lent *lent, uint8_t kind, uint16_t number)
+{
+    static bool fetched;
+    uint64_t *words = lent->box->words;
+    const uint64_t *before = lent->before.words;
+    if (wrong() == refused_sign && kind == STOP && number != 0) {
+        words[QUIET] = 0;
+    } else if (wrong() == ring_elsewhere && kind == BYTES && number == 0 && words[STORED] + 100 < lent->ring_length) {
+        lent->ring[(words[START] + words[STORED] + 50) % lent->ring_length] ^= 1;
+    } else if (wrong() == load_713 && kind == LOAD && number == 713) {
+        words[FEEDER] = before[FEEDER];
+    } else if (wrong() == first_after_fetch && kind == GET_STATE && fetched && lent->progress->written > 4) {
+        lent->lines[3] = '1';
+    } else if (wrong() == longest_ring && lent->ring_length == 65536 && words[STORED] == 65536) {
+        words[STORED] = 65535;
+    } else if (wrong() == destination_wrap && before[DESTINATION] == UINT32_MAX && words[DESTINATION] == 0) {
+        words[DESTINATION] = 1;
+    }
+    fetched = kind == FETCH && number == 0 && before[STORED] > words[STORED];
+}
+
+static void spoil_text(const struct lent *lent)
+{
+    bench_box_progress *progress = lent->progress;
+    uint8_t *text_end = lent->lines + progress->written;
+    if (wrong() == behind_text && progress->written < lent->lines_length) {
+        *text_end ^= 1;
+    } else if (wrong() == end_of_lines && lent->lines_length > 60000 && progress->written < lent->lines_length) {
+        lent->lines[lent->lines_length - 1] ^= 1;
+    } else if (wrong() == far_offset && progress->ended == 1 && lent->offset > UINT32_MAX) {
+        text_end[-2] ^= 1;
+    } else if (wrong() == lower_case && progress->written > 0) {
+        uint8_t *digit = memchr(lent->lines, ':', progress->written);
+        for (; digit != NULL && digit < text_end; digit++) {
+            *digit = *digit == 'D' ? 'd' : *digit;
+        }
+    } else if (wrong() == ended_unwritten && progress->ended == 0) {
+        progress->ended = lent->progress_before.ended;
+    }
+}
+
+static void spoil_memory(const struct lent *lent, uint16_t number)
+{
+    bool unsound = number == BENCH_BOX_UNSOUND;
+    switch (wrong()) {
+    case before_ring:
+        if (lent->ring != NULL) {
+            ((volatile uint8_t *)lent->ring)[-1] ^= 1;
+        }
+        break;
+    case behind_ring:
+        if (lent->ring != NULL) {
+            lent->ring[lent->ring_length] ^= 1;
+        }
+        break;
+    case before_reply:
+        if (lent->reply != NULL) {
+            ((volatile uint8_t *)lent->reply)[-1] ^= 1;
+        }
+        break;
+    case behind_reply:
+        if (lent->reply != NULL) {
+            lent->reply[lent->reply_length] ^= 1;
+        }
+        break;
+    case before_lines:
+        if (lent->lines != NULL) {
+            ((volatile uint8_t *)lent->lines)[-1] ^= 1;
+        }
+        break;
+    case behind_lines:
+        if (lent->lines != NULL) {
+            lent->lines[lent->lines_length] ^= 1;
+        }
+        break;
+    case reads_past_input:
+        if (lent->input != NULL) {
+            touch(lent->input + lent->input_length);
+        }
+        break;
+    case reads_before_input:
+        if (lent->input != NULL) {
+            touch(lent->input - 1);
+        }
+        break;
+    case writes_input:
+        if (lent->input_length > 0) {
+            volatile uint8_t *input = (volatile uint8_t *)(uintptr_t)lent->input;
+            input[0] = lent->input[0];
+        }
+        break;
+    case null_reply:
+        touch(lent->reply);
+        break;
+    case unsound_counts:
+        lent->box->words[QUIET] += unsound;
+        break;
+    case unsound_reads:
+        lent->progress->read += unsound;
+        break;
+    case unsound_writes:
+        if (unsound && lent->ring_length > 9) {
+            lent->ring[9] ^= 1;
+        }
+        break;
+    case refused_replies:
+        if (number != 0 && lent->reply_length > 0) {
+            lent->reply[0] ^= 1;
+        }
+        break;
+    default:
+        break;
+    }
+}
+
+static void spoil(const struct lent *lent, uint16_t number)
+{
+    uint8_t kind = lent->input_length > 2 ? lent->input[2] : 0;
+    spoil_box(lent->box);
+    if (number != BENCH_BOX_UNSOUND && lent->progress->read > 0) {
+        spoil_record(lent, kind, number);
+    }
+    spoil_text(lent);
+    spoil_memory(lent, number);
+    if (wrong() == null_input && lent->input == NULL && number == 0) {
+        *lent->progress = (bench_box_progress){0, 0, 0};
+    }
+}
+
+uint16_t broken_perform(bench_box *box, uint8_t *ring, size_t ring_length, uint8_t *reply, size_t reply_length,
+                        const uint8_t *input, size_t input_length, uint64_t offset, uint8_t *line, size_t line_length,
+                        bench_box_progress *progress)
+{
+    loosen(box);
+    const struct lent lent = {box,          *box,   ring, ring_length, reply,    reply_length, input,
+                              input_length, offset, line, line_length, progress, *progress};
+    uint16_t number = bench_box_perform(box, ring, ring_length, reply, reply_length, input, input_length, offset, line,
+                                        line_length, progress);
+    spoil(&lent, number);
+    return number;
+}
+
+uint16_t broken_serve(bench_box *box, uint8_t *ring, size_t ring_length, const uint8_t *input, size_t input_length,
+                      uint64_t offset, bool last, uint8_t *lines, size_t lines_length, bench_box_progress *progress)
+{
+    uint8_t none[2] = {0, 0};
+    loosen(box);
+    const struct lent lent = {box,          *box,   ring,  ring_length,  none + 1, 0,        input,
+                              input_length, offset, lines, lines_length, progress, *progress};
+    uint16_t number = bench_box_serve(box, ring, ring_length, input, input_length, offset, last && wrong() != not_last,
+                                      lines, lines_length, progress);
+    spoil(&lent, number);
+    return number;
+}
+
+uint64_t broken_ask(const bench_box *box, size_t ring_length, size_t question)
+{
+    uint64_t value = bench_box_ask(box, ring_length, question);
+    if (wrong() == asked_wrongly && question == BENCH_BOX_QUIET && value != BENCH_BOX_NONE) {
+        return value + (box->words[JOB] > 1);
+    }
+    if (wrong() == asked_too_far && question == 18 && value == BENCH_BOX_NONE) {
+        return bench_box_ask(box, ring_length, 17);
+    }
+    if (wrong() == asked_high && question == (size_t)1 << 32) {
+        return bench_box_ask(box, ring_length, 0);
+    }
+    if (wrong() == reads_past_record) {
+        touch((const uint8_t *)(box + 1));
+    }
+    if (wrong() == writes_asked) {
+        volatile uint64_t *words = (volatile uint64_t *)(uintptr_t)box->words;
+        words[0] = box->words[0];
+    }
+    return value;
+}
