@@ -1,9 +1,15 @@
-/* The sizes that the header states, and that no function writes outside the box record. */
+/*
+ * What the header states, as a host meets it: sizes, every kind, number and state by its name, the reply's layout and how
+ * the last bytes of a side are told, the stack; and that no function writes outside the box record.
+ */
+#define _DEFAULT_SOURCE
+
 #include "bench_box.h"
 
 #include <stdalign.h>
 #include <stdio.h>
 #include <string.h>
+#include <ucontext.h>
 
 _Static_assert(sizeof(bench_box) == BENCH_BOX_SIZE, "the record's size");
 _Static_assert(alignof(bench_box) == BENCH_BOX_ALIGN, "the record's alignment");
@@ -39,9 +45,206 @@ static int is_guarded(const struct guarded *g)
     return 1;
 }
 
+/* ---- a shift by the header's names */
+
+static bench_box box;
+static uint8_t ring[RING], reply[BENCH_BOX_REPLY_MOST];
+static char line[8 * BENCH_BOX_LINE_MOST];
+
+/* Each call has a painted stack of its own; what is no longer painted afterwards, it took. */
+enum { PAINT = 0x5E, STACK = 65536 };
+static uint8_t stack[STACK];
+static size_t deepest;
+static ucontext_t here, there;
+
+static void on_painted_stack(void (*call)(void))
+{
+    size_t kept = 0;
+    memset(stack, PAINT, sizeof stack);
+    getcontext(&there);
+    there.uc_stack.ss_sp = stack;
+    there.uc_stack.ss_size = sizeof stack;
+    there.uc_link = &here;
+    makecontext(&there, call, 0);
+    swapcontext(&here, &there);
+    while (kept < sizeof stack && stack[kept] == PAINT) {
+        kept++;
+    }
+    if (sizeof stack - kept > deepest) {
+        deepest = sizeof stack - kept;
+    }
+}
+
+/* What the calls are given and answer. */
+static struct {
+    uint8_t input[BENCH_BOX_RECORD_MOST];
+    size_t length, reply_length;
+    bench_box_progress progress;
+    uint16_t number;
+} lent;
+
+static void call_perform(void)
+{
+    lent.number = bench_box_perform(&box, ring, RING, reply, lent.reply_length, lent.input, lent.length, 0,
+                                    (uint8_t *)line, sizeof line, &lent.progress);
+}
+
+static void call_serve(void)
+{
+    lent.number = bench_box_serve(&box, ring, RING, lent.input, lent.length, 0, true, (uint8_t *)line, sizeof line,
+                                  &lent.progress);
+}
+
+static void call_tick(void)
+{
+    bench_box_tick(&box, RING);
+}
+
+static void call_fresh(void)
+{
+    bench_box_fresh(&box);
+}
+
+static void call_ask(void)
+{
+    bench_box_ask(&box, RING, BENCH_BOX_STORED);
+}
+
+static unsigned digit(char hex)
+{
+    return hex <= '9' ? (unsigned)(hex - '0') : (unsigned)(hex - 'A' + 10);
+}
+
+static void put_hex(const char *hex)
+{
+    for (; *hex != '\0'; hex += 2) {
+        lent.input[lent.length++] = (uint8_t)(digit(hex[0]) * 16 + digit(hex[1]));
+    }
+}
+
+static uint64_t ask(enum bench_box_question question)
+{
+    return bench_box_ask(&box, RING, question);
+}
+
+/* One record, with a payload in hex, performed with a reply of this length: its number. */
+static uint16_t perform_with(size_t reply_length, enum bench_box_kind kind, const char *payload)
+{
+    const uint8_t head[BENCH_BOX_RECORD_HEAD] = {0xA5, 0x5A, (uint8_t)kind, (uint8_t)(strlen(payload) / 2)};
+    memcpy(lent.input, head, sizeof head);
+    lent.length = sizeof head;
+    lent.reply_length = reply_length;
+    put_hex(payload);
+    memset(reply, GUARD, sizeof reply);
+    on_painted_stack(call_perform);
+    expect(lent.progress.read == lent.length && lent.progress.ended == 0, "a record of the shift is not read");
+    line[lent.progress.written - 1] = '\0';
+    return lent.number;
+}
+
+static uint16_t perform(enum bench_box_kind kind, const char *payload)
+{
+    return perform_with(sizeof reply, kind, payload);
+}
+
+/* The names of job 1's sides 1 and 2, behind a most of 2 and of 255. */
+#define NAME_1 "4A303030303030303030313030312E6A7067"
+#define NAME_2 "4A303030303030303030313030322E6A7067"
+
+static void shift(void)
+{
+    bench_box_fresh(&box);
+    expect(perform(BENCH_BOX_KIND_GET_STATE, "") == BENCH_BOX_ACCEPTED && strcmp(line, "07 0 I U 0 1 0 none") == 0,
+           "GetState of a fresh box");
+    expect(perform(BENCH_BOX_KIND_FETCH, "02" NAME_1) == BENCH_BOX_WRONG_NAME, "a fetch with no job");
+    expect(perform(BENCH_BOX_KIND_STOP, "00000000") == BENCH_BOX_WRONG_JOB, "a stop with no job");
+    expect(perform(BENCH_BOX_KIND_TRAY, "02") == BENCH_BOX_WRONG_VALUE, "a tray of 2");
+    expect(perform(BENCH_BOX_KIND_START_SCAN, "01000201003C") == BENCH_BOX_NO_SHEET, "a job with no sheet");
+    expect(perform(BENCH_BOX_KIND_TRAY, "01") == BENCH_BOX_ACCEPTED && ask(BENCH_BOX_TRAY) == 1, "a tray of 1");
+    expect(perform(BENCH_BOX_KIND_LOAD, "00000000") == BENCH_BOX_ACCEPTED &&
+               ask(BENCH_BOX_FEEDER_STATE) == BENCH_BOX_FEEDER_LOADED,
+           "Load");
+    expect(perform(BENCH_BOX_KIND_FEEDER_GET_STATE, "") == BENCH_BOX_ACCEPTED && strcmp(line, "14 0 I L 0 1 0 1:none") == 0,
+           "the feeder's GetState");
+    expect(perform(BENCH_BOX_KIND_SET_FEEDER_MODE, "0000000000") == BENCH_BOX_WRONG_STATE, "SetFeederMode in Loaded");
+    expect(perform(BENCH_BOX_KIND_START_SCAN, "010002010005") == BENCH_BOX_ACCEPTED &&
+               ask(BENCH_BOX_SCAN_STATE) == BENCH_BOX_SCAN_SCANNING &&
+               ask(BENCH_BOX_FEEDER_STATE) == BENCH_BOX_FEEDER_BUSY && ask(BENCH_BOX_GRANTED) == 5,
+           "StartScan of two sides");
+    expect(perform(BENCH_BOX_KIND_EJECT, "0000000100") == BENCH_BOX_WRONG_STATE, "Eject in Busy");
+    expect(perform(BENCH_BOX_KIND_GET_DESTINATION, "00000001") == BENCH_BOX_ACCEPTED &&
+               strcmp(line, "05 0 S B 1 1 2 J0000000001001.jpg:1") == 0,
+           "GetDestination");
+    expect(perform(BENCH_BOX_KIND_BYTES, "414243") == BENCH_BOX_ACCEPTED && ask(BENCH_BOX_STORED) == 3, "Bytes");
+    expect(perform(BENCH_BOX_KIND_SIDE_ENDED, "") == BENCH_BOX_ACCEPTED &&
+               ask(BENCH_BOX_SCAN_STATE) == BENCH_BOX_SCAN_FINISHING &&
+               ask(BENCH_BOX_FEEDER_STATE) == BENCH_BOX_FEEDER_UNLOADED,
+           "Side ended");
+
+    /* A reply too short for its head; two bytes of three; the last one. */
+    expect(perform_with(BENCH_BOX_REPLY_HEAD - 1, BENCH_BOX_KIND_FETCH, "02" NAME_1) == BENCH_BOX_NO_ROOM &&
+               reply[0] == GUARD,
+           "a fetch into three bytes");
+    expect(perform(BENCH_BOX_KIND_FETCH, "02" NAME_1) == BENCH_BOX_ACCEPTED &&
+               memcmp(reply, "\xA5\x5A\x06\x02" "AB\xC3", 7) == 0 && strcmp(line, "06 0 F U 1 1 1 2:4142") == 0 &&
+               ask(BENCH_BOX_SCAN_STATE) == BENCH_BOX_SCAN_FINISHING,
+           "two bytes, and not the last");
+    expect(perform(BENCH_BOX_KIND_FETCH, "FF" NAME_1) == BENCH_BOX_ACCEPTED &&
+               memcmp(reply, "\xA5\x5A\x06\x01" "C\xC3", 6) == 0 && strcmp(line, "06 0 S B 1 2 1 1!:43") == 0 &&
+               ask(BENCH_BOX_SCAN_STATE) != BENCH_BOX_SCAN_FINISHING,
+           "one byte, the last");
+
+    /* A jam in the second side, its end by time, and what is left. */
+    expect(perform(BENCH_BOX_KIND_PATH, "01") == BENCH_BOX_ACCEPTED &&
+               ask(BENCH_BOX_SCAN_STATE) == BENCH_BOX_SCAN_ERRED &&
+               ask(BENCH_BOX_FEEDER_STATE) == BENCH_BOX_FEEDER_ERRED &&
+               ask(BENCH_BOX_SCAN_FAILURE) == BENCH_BOX_FAILURE_JAMMED &&
+               ask(BENCH_BOX_FEEDER_FAILURE) == BENCH_BOX_FAILURE_JAMMED,
+           "a jam");
+    expect(perform(BENCH_BOX_KIND_START, "00000001010001") == BENCH_BOX_FEEDER_FAILED, "Start from a jammed feeder");
+    expect(perform(BENCH_BOX_KIND_START, "00000001000000") == BENCH_BOX_ACCEPTED &&
+               ask(BENCH_BOX_SCAN_STATE) == BENCH_BOX_SCAN_PENDING,
+           "Start of no side");
+    expect(perform(BENCH_BOX_KIND_GET_SIDE_INFORMATION, "") == BENCH_BOX_ACCEPTED, "GetSideInformation");
+    for (int second = 1; second <= 5; second++) {
+        expect(perform(BENCH_BOX_KIND_TICK, "") == BENCH_BOX_ACCEPTED &&
+                   (ask(BENCH_BOX_SCAN_STATE) == BENCH_BOX_SCAN_IDLE) == (second == 5),
+               "the second at which the job ends");
+    }
+    expect(ask(BENCH_BOX_SCAN_FAILURE) == BENCH_BOX_FAILURE_TIMEOUT, "the end by time");
+    expect(perform(BENCH_BOX_KIND_PATH, "00") == BENCH_BOX_ACCEPTED &&
+               perform(BENCH_BOX_KIND_RESET, "00000000") == BENCH_BOX_ACCEPTED &&
+               ask(BENCH_BOX_FEEDER_STATE) == BENCH_BOX_FEEDER_UNLOADED &&
+               ask(BENCH_BOX_FEEDER_FAILURE) == BENCH_BOX_FAILURE_NONE,
+           "Reset");
+    expect(perform(BENCH_BOX_KIND_GET_FEEDER_MODE, "") == BENCH_BOX_ACCEPTED && strcmp(line, "15 0 I U 0 1 0 Simplex") == 0,
+           "GetFeederMode");
+    expect(perform(BENCH_BOX_KIND_START_SCAN, "000000010000") == BENCH_BOX_ACCEPTED &&
+               perform(BENCH_BOX_KIND_ABORT, "00000002") == BENCH_BOX_ACCEPTED && ask(BENCH_BOX_JOB) == 0,
+           "Abort");
+    expect(perform(BENCH_BOX_KIND_FETCH, "FF" NAME_2) == BENCH_BOX_WRONG_NAME, "a fetch after the end");
+}
+
+/* A window of four records and a bad one, and the other functions, for the stack that they take. */
+static void other_functions(void)
+{
+    on_painted_stack(call_fresh);
+    lent.length = 0;
+    put_hex("A55A220101A55A010602FFFF02000AA55A050400000001A55A20024142A55A99");
+    on_painted_stack(call_serve);
+    on_painted_stack(call_tick);
+    on_painted_stack(call_ask);
+    expect(lent.progress.ended == 1 && ask(BENCH_BOX_STORED) == 2 && ask(BENCH_BOX_QUIET) == 1, "a window of five records");
+}
+
 int main(void)
 {
     struct guarded a, b;
+    shift();
+    deepest = 0; /* the first calls also bring memcpy in */
+    shift();
+    other_functions();
+    expect(deepest > 0 && deepest <= BENCH_BOX_STACK_MOST, "the stack that a call takes");
     memset(&a, GUARD, sizeof a);
     memset(&b, GUARD, sizeof b);
     memset(&b.box, 0, sizeof b.box);
@@ -76,7 +279,7 @@ int main(void)
     expect(bench_box_tick(&a.box, RING) == BENCH_BOX_UNSOUND, "tick of nonsense");
     expect(bench_box_ask(&a.box, RING, BENCH_BOX_JOB) == BENCH_BOX_NONE, "the answer about nonsense");
 
-    uint8_t ring[RING] = {0}, lines[BENCH_BOX_LINE_MOST] = {0}, reply[BENCH_BOX_REPLY_MOST] = {0};
+    uint8_t lines[BENCH_BOX_LINE_MOST] = {0};
     const uint8_t record[] = {0xA5, 0x5A, 0x07, 0x00};
     bench_box_progress progress = {7, 7, 7};
     expect(bench_box_serve(&a.box, ring, RING, record, sizeof record, 0, true, lines, sizeof lines, &progress) ==
