@@ -10,7 +10,7 @@
  * The status is 0 where the shift is over, a bad record and a reader that has gone away included; 1 where lines cannot
  * be written or the box record is not sound; 2 where the host is called wrongly or cannot read the file.
  *
- *     gcc -std=c11 -O2 -Iinclude examples/host.c -L target/staticlib -lbench_box -o host
+ *     gcc -std=c11 -O2 -Iinclude examples/host.c -L target/staticlib -lbench_box -o target/host
  */
 #define _POSIX_C_SOURCE 200809L
 

@@ -5,16 +5,22 @@
  * that lines go to. The library keeps no state, allocates nothing, calls nothing but C's memcpy and memset, and always
  * returns.
  *
- * Any bytes and any lengths get an answer. Where a length is 0 its pointer may be NULL. What the host promises:
+ * Any bytes and any lengths get an answer. What the host promises:
+ *   - box and progress are not NULL; ring, reply, input and lines are not NULL unless their length is 0;
  *   - a pointer with its length spans memory that is the host's to lend (to read; to write where it is not const);
  *   - no two things lent to one call overlap;
  *   - no other thread uses them during the call;
- *   - a bench_box is aligned as C aligns it.
+ *   - a bench_box is aligned as C aligns it;
+ *   - BENCH_BOX_STACK_MOST bytes of the stack are free, and what C's memcpy and memset take beside them.
  *
- * Link with libbench_box.a. x86-64, little-endian.
+ * Link with libbench_box.a, which is for x86-64 (System V's calling convention, 64-bit lengths, little-endian).
  */
 #ifndef BENCH_BOX_H
 #define BENCH_BOX_H
+
+#if !defined(__x86_64__) || defined(__ILP32__)
+#error "bench_box.h: libbench_box.a is for x86-64 alone"
+#endif
 
 #include <stdbool.h>
 #include <stddef.h>
@@ -35,14 +41,62 @@ typedef struct bench_box {
 /* A ring has 1 to this many bytes, and always the same number while a record is kept for it. */
 #define BENCH_BOX_RING_MOST 65536
 
-/* A reply of this length never makes a fetch shorter; one of fewer than 4 bytes makes it 603. */
+/*
+ * The reply of an accepted fetch: A5 5A 06 k, then k picture bytes. The bytes behind them stay as they were, and so does
+ * the whole reply where the fetch is refused, or the record is none. A reply of BENCH_BOX_REPLY_MOST bytes never makes a
+ * fetch shorter; one of less than BENCH_BOX_REPLY_HEAD bytes makes it 603.
+ *
+ * That these bytes are the last of the side stands in the line, as a ! behind k: `06 0 P U 1 2 0 2!:4142`. A host that
+ * does not read lines asks for BENCH_BOX_SCAN_STATE before and after the call: the bytes were the last exactly where the
+ * fetch is accepted, and the box was Finishing before it and is not any more.
+ */
+#define BENCH_BOX_REPLY_HEAD 4
 #define BENCH_BOX_REPLY_MOST 259
 
 /* No line is longer, and no record is answered into less room. */
 #define BENCH_BOX_LINE_MOST 640
 
-/* The number for a box record that is not sound with the lent ring. */
-#define BENCH_BOX_UNSOUND 604
+/* No call takes more of the stack. */
+#define BENCH_BOX_STACK_MOST 2048
+
+/* The numbers: 0 is acceptance, any other says why not. A refused call leaves all as it was, but for Load's 713. */
+#define BENCH_BOX_ACCEPTED 0
+#define BENCH_BOX_WRONG_NAME 404    /* the name is not the present picture's, or no job is held */
+#define BENCH_BOX_WRONG_STATE 501   /* not in this state */
+#define BENCH_BOX_WRONG_VALUE 601   /* a value that is not listed */
+#define BENCH_BOX_NO_ROOM 603       /* more bytes than the ring has room for, or a reply under four bytes */
+#define BENCH_BOX_UNSOUND 604       /* the box record is not sound with the lent ring */
+#define BENCH_BOX_FEEDER_FAILED 711 /* the feeder is Erred */
+#define BENCH_BOX_WRONG_JOB 712     /* not the number of the job held */
+#define BENCH_BOX_NO_SHEET 713      /* no sheet in the tray; by Load the feeder is Unloaded, the rest kept */
+
+/*
+ * Desk records: A5 5A, kind, length of the payload, payload. Below stand the payload's fields with their bytes. Numbers
+ * are big-endian, SideCount in two's complement (all sheets there are: FF FF).
+ */
+#define BENCH_BOX_RECORD_HEAD 4
+#define BENCH_BOX_RECORD_MOST 259
+enum bench_box_kind {
+    BENCH_BOX_KIND_START_SCAN = 0x01,           /* UseFeeder 1, SideCount 2, Append 1, time 2; 2 for UseFeeder or Append keeps the setting */
+    BENCH_BOX_KIND_START = 0x02,                /* job 4, UseFeeder 1, SideCount 2 */
+    BENCH_BOX_KIND_STOP = 0x03,                 /* job 4 */
+    BENCH_BOX_KIND_ABORT = 0x04,                /* job 4 */
+    BENCH_BOX_KIND_GET_DESTINATION = 0x05,      /* job 4 */
+    BENCH_BOX_KIND_FETCH = 0x06,                /* most 1, name 0 to 254 */
+    BENCH_BOX_KIND_GET_STATE = 0x07,            /* none */
+    BENCH_BOX_KIND_GET_SIDE_INFORMATION = 0x08, /* none */
+    BENCH_BOX_KIND_LOAD = 0x10,                 /* job 4 */
+    BENCH_BOX_KIND_EJECT = 0x11,                /* job 4, value 1 */
+    BENCH_BOX_KIND_RESET = 0x12,                /* job 4 */
+    BENCH_BOX_KIND_SET_FEEDER_MODE = 0x13,      /* job 4, mode 1 (0 is Simplex) */
+    BENCH_BOX_KIND_FEEDER_GET_STATE = 0x14,     /* none */
+    BENCH_BOX_KIND_GET_FEEDER_MODE = 0x15,      /* none */
+    BENCH_BOX_KIND_BYTES = 0x20,                /* 0 to 255 picture bytes */
+    BENCH_BOX_KIND_SIDE_ENDED = 0x21,           /* none */
+    BENCH_BOX_KIND_TRAY = 0x22,                 /* value 1 (1 is more pages) */
+    BENCH_BOX_KIND_PATH = 0x23,                 /* value 1 (1 is jammed) */
+    BENCH_BOX_KIND_TICK = 0x24                  /* none */
+};
 
 /* What a call came to. */
 typedef struct bench_box_progress {
@@ -83,12 +137,28 @@ uint16_t bench_box_serve(bench_box *box, uint8_t *ring, size_t ring_length, cons
                          uint64_t offset, bool last, uint8_t *lines, size_t lines_length,
                          bench_box_progress *progress);
 
+/* States and FailureCodes, as bench_box_ask tells them. */
+enum bench_box_scan_state {
+    BENCH_BOX_SCAN_IDLE = 0,
+    BENCH_BOX_SCAN_PENDING = 1,
+    BENCH_BOX_SCAN_SCANNING = 2,
+    BENCH_BOX_SCAN_FINISHING = 3,
+    BENCH_BOX_SCAN_ERRED = 4
+};
+enum bench_box_feeder_state {
+    BENCH_BOX_FEEDER_UNLOADED = 0,
+    BENCH_BOX_FEEDER_LOADED = 1,
+    BENCH_BOX_FEEDER_BUSY = 2,
+    BENCH_BOX_FEEDER_ERRED = 3
+};
+enum bench_box_failure { BENCH_BOX_FAILURE_NONE = 0, BENCH_BOX_FAILURE_JAMMED = 1, BENCH_BOX_FAILURE_TIMEOUT = 2 };
+
 /* What the box is doing. */
 enum bench_box_question {
-    BENCH_BOX_SCAN_STATE = 0,     /* 0 Idle, 1 Pending, 2 Scanning, 3 Finishing, 4 Erred */
-    BENCH_BOX_SCAN_FAILURE = 1,   /* 0 none, 1 Jammed, 2 Timeout */
-    BENCH_BOX_FEEDER_STATE = 2,   /* 0 Unloaded, 1 Loaded, 2 Busy, 3 Erred */
-    BENCH_BOX_FEEDER_FAILURE = 3, /* 0 none, 1 Jammed, 2 Timeout */
+    BENCH_BOX_SCAN_STATE = 0,     /* enum bench_box_scan_state */
+    BENCH_BOX_SCAN_FAILURE = 1,   /* enum bench_box_failure */
+    BENCH_BOX_FEEDER_STATE = 2,   /* enum bench_box_feeder_state */
+    BENCH_BOX_FEEDER_FAILURE = 3, /* enum bench_box_failure */
     BENCH_BOX_JOB = 4,            /* the job held, 0 for none */
     BENCH_BOX_LAST_JOB = 5,       /* the last job number given */
     BENCH_BOX_USE_FEEDER = 6,
