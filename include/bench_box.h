@@ -72,12 +72,12 @@ typedef struct bench_box {
 
 /*
  * Desk records: A5 5A, kind, length of the payload, payload. Below stand the payload's fields with their bytes. Numbers
- * are big-endian, SideCount in two's complement (all sheets there are: FF FF).
+ * are big-endian, SideCount in two's complement (all sheets there are: FF FF). 2 for UseFeeder or Append keeps the setting.
  */
 #define BENCH_BOX_RECORD_HEAD 4
 #define BENCH_BOX_RECORD_MOST 259
 enum bench_box_kind {
-    BENCH_BOX_KIND_START_SCAN = 0x01,           /* UseFeeder 1, SideCount 2, Append 1, time 2; 2 for UseFeeder or Append keeps the setting */
+    BENCH_BOX_KIND_START_SCAN = 0x01,           /* UseFeeder 1, SideCount 2, Append 1, time 2 */
     BENCH_BOX_KIND_START = 0x02,                /* job 4, UseFeeder 1, SideCount 2 */
     BENCH_BOX_KIND_STOP = 0x03,                 /* job 4 */
     BENCH_BOX_KIND_ABORT = 0x04,                /* job 4 */
@@ -86,7 +86,7 @@ enum bench_box_kind {
     BENCH_BOX_KIND_GET_STATE = 0x07,            /* none */
     BENCH_BOX_KIND_GET_SIDE_INFORMATION = 0x08, /* none */
     BENCH_BOX_KIND_LOAD = 0x10,                 /* job 4 */
-    BENCH_BOX_KIND_EJECT = 0x11,                /* job 4, value 1 */
+    BENCH_BOX_KIND_EJECT = 0x11,                /* job 4, value 1: 0 leaves MorePages, 1 and 2 set it to 0 */
     BENCH_BOX_KIND_RESET = 0x12,                /* job 4 */
     BENCH_BOX_KIND_SET_FEEDER_MODE = 0x13,      /* job 4, mode 1 (0 is Simplex) */
     BENCH_BOX_KIND_FEEDER_GET_STATE = 0x14,     /* none */

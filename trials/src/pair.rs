@@ -320,8 +320,9 @@ impl Pair {
         self.room = room;
         self.reply.clear();
         self.ask_peer(|record, [ring, _, lines]| told(peer::serve(record, ring, input, offset, last, lines)))?;
-        // A long ring is looked at where something is answered or the call is the first, and now and then.
+        // A long ring is looked at where something is answered, the stream ends or the call is the first, and now and then.
         let look_at_ring = self.came.read > 0
+            || last
             || self.ring.len() < 8192
             || self.turn % 16 == 0
             || (self.came.number == 604 && self.turn == 1);
