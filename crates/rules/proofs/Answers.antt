@@ -307,6 +307,6 @@ bearing s (feeder GetFeederState) j e k = cc
 bearing s (feeder GetFeederMode) j e k = cc
 bearing s (report c) j e k = cc
 
-pub others-refused : (s : State) (c : Call) (j : ℕ) → bears c ≡ some j → j ≢ s .box .job .held → wasAccepted (step s c) ≡ false
-others-refused s c j e d =
+pub bearing-refused : (s : State) (c : Call) (j : ℕ) → bears c ≡ some j → j ≢ s .box .job .held → wasAccepted (step s c) ≡ false
+bearing-refused s c j e d =
     by-step (λ (o : Outcome). wasAccepted o ≡ false) s c nonzero (λ _ _ _ _. refl) (λ k. absurd (d (bearing s c j e k)))

@@ -1,7 +1,7 @@
 -- What a call does to a sound box, in ten kinds. Soundness, time, pictures and ends each go by these and not by the calls.
 use Prim.Native.Nat.{ℕ, _+_, _-_, _≤_}
 use mathlib.Core.Path.{_≡_, refl, sym, subst}
-use mathlib.Core.Bool.{true, false, _&&_, _||_}
+use mathlib.Core.Bool.{true, false, _&&_, _||_, and-false}
 use mathlib.Core.List.{List, []}
 use mathlib.Core.Option.{none}
 use lib.Dec.{eqb, leb}
@@ -12,7 +12,7 @@ use Rattle.rules.specs.declared.Feed.{Feed}
 use Rattle.rules.specs.declared.Failure.{Failure}
 use Rattle.rules.specs.declared.Feeder.{Feeder}
 use Rattle.rules.specs.declared.Record.{Record}
-use Rattle.rules.specs.Record.{counted, endless, idle, scanning, busy, stuck, on, granting}
+use Rattle.rules.specs.Record.{counted, endless, idle, pending, scanning, erred, busy, stuck, on, granting}
 use Rattle.rules.specs.Feeder.{pathAt, trayAt, jammed, unloads, loads, ejects, resets}
 use Rattle.rules.specs.Moves.{withFeeder, settled, given, least, filled, feeds, caught}
 use Rattle.rules.specs.Calls.{ScanCall, StartScan, Start, Stop, Abort, GetDestination, Fetch, GetState, GetSideInformation, FeederCall, Load, Eject}
@@ -20,7 +20,7 @@ use Rattle.rules.specs.Calls.{Reset, SetFeederMode, GetFeederState, GetF
 use Rattle.rules.specs.Calls.{report, Reason, n713, numberOf, State, Values, nothing, Outcome, lent, to, refused, answer}
 use Rattle.rules.specs.Machine.{listed, sidesListed, scanRefusals, feederRefusals, reportRefusals, refusals, accepted, scanEffect, feederEffect}
 use Rattle.rules.specs.Machine.{reportEffect, effect, step}
-use Rattle.rules.specs.Watch.{scanOf, countIn, bytesIn, timeIn, sign, ticks, brought}
+use Rattle.rules.specs.Watch.{scanOf, wasAccepted, countIn, bytesIn, timeIn, sign, ticks, brought, scanAsks, asks}
 use Rattle.rules.proofs.Choice.{choice, or-l, or-r, and-l, and-r, vacuous}
 use Rattle.rules.proofs.Sound.{FeederFit, Sound, idle-none}
 use Rattle.rules.proofs.Cases.{pathed-cases}
@@ -39,7 +39,7 @@ pub record Mute (v : Values) : Type 0 where
   pub uncounted : countIn v ≡ 0
   pub unpictured : bytesIn v ≡ []
 
--- the feeder Busy or not as before, and fit; no sign of life, no Tick, nothing put in
+-- the feeder Busy or not as before, and fit; no sign of life, no Tick, nothing put in, no stop asked
 pub record Aside (s : State) (c : Call) (f : Feeder) (o : Outcome) : Type 0 where
   pub free : busy (f .state) ≡ busy (s .box .feeder .state)
   pub fit : FeederFit f
@@ -47,14 +47,15 @@ pub record Aside (s : State) (c : Call) (f : Feeder) (o : Outcome) : Type 0 wher
   pub still : ticks c ≡ false
   pub mute : Mute (o .values)
   pub dry : brought c o ≡ []
+  pub unasked : asks c o ≡ false
 
 pub data Deed (s : State) : Call → Outcome → Type 0 where
   aside : {c : Call} (n : ℕ) (v : Values) (f : Feeder) (reply : List ℕ) → Aside s c f (beside n v f reply s)
       → Deed s c (beside n v f reply s)
   opens : {from count append asked : ℕ} → idle (scanOf s) ≡ true → Good (scanEffect (StartScan from count append asked) s .state)
       → Deed s (scan (StartScan from count append asked)) (scanEffect (StartScan from count append asked) s)
-  starts : {j from count : ℕ} → idle (scanOf s) ≡ false → Good (scanEffect (Start j from count) s .state)
-      → Deed s (scan (Start j from count)) (scanEffect (Start j from count) s)
+  starts : {j from count : ℕ} → idle (scanOf s) ≡ false → (pending (scanOf s) || erred (scanOf s)) ≡ true
+      → Good (scanEffect (Start j from count) s .state) → Deed s (scan (Start j from count)) (scanEffect (Start j from count) s)
   stops : {j : ℕ} → idle (scanOf s) ≡ false → j ≡ s .box .job .held → Good (scanEffect (Stop j) s .state)
       → Deed s (scan (Stop j)) (scanEffect (Stop j) s)
   aborts : {j : ℕ} → idle (scanOf s) ≡ false → j ≡ s .box .job .held → Good (scanEffect (Abort j) s .state)
@@ -70,6 +71,11 @@ pub data Deed (s : State) : Call → Outcome → Type 0 where
       (accepted nothing (caught (s .box)) s)
   second : Good (reportEffect Tick s .state) → Deed s (report Tick) (reportEffect Tick s)
 
+asks-none : (c : Call) (o : Outcome) → wasAccepted o ≡ false → asks c o ≡ false
+asks-none (scan c) o e = rw e (and-false (scanAsks c))
+asks-none (feeder c) o e = refl
+asks-none (report c) o e = refl
+
 nothing-mute : Mute nothing
 nothing-mute = record { untimed = refl; uncounted = refl; unpictured = refl }
 
@@ -79,7 +85,7 @@ module _ (s : State) (h : Good s) where
       → Deed s c (refused n (withFeeder f (s .box)) s c)
   kept c t n f b i =
       aside {c = c} (numberOf n) nothing f (lent c)
-      (record { free = b; fit = i; silent = refusal-silent s f n c; still = t; mute = nothing-mute; dry = rw (nonzero n) })
+      (record { free = b; fit = i; silent = refusal-silent s f n c; still = t; mute = nothing-mute; dry = rw (nonzero n); unasked = asks-none c _ (nonzero n) })
 
   unloading : stuck (s .box .feeder .state) ≡ false → FeederFit (unloads (s .box .feeder))
   unloading e =
@@ -96,13 +102,14 @@ module _ (s : State) (h : Good s) where
   -- ---- an accepted call that changes the feeder alone, or nothing
   besides : (c : Call) (v : Values) (f : Feeder) → busy (f .state) ≡ busy (s .box .feeder .state) → FeederFit f
       → sign c (scanOf s) (accepted v (withFeeder f (s .box)) s) ≡ false → ticks c ≡ false → Mute v
-      → brought c (accepted v (withFeeder f (s .box)) s) ≡ [] → Deed s c (accepted v (withFeeder f (s .box)) s)
-  besides c v f b i q t m d =
-      aside {c = c} 0 v f [] (record { free = b; fit = i; silent = q; still = t; mute = m; dry = d })
+      → brought c (accepted v (withFeeder f (s .box)) s) ≡ [] → asks c (accepted v (withFeeder f (s .box)) s) ≡ false
+      → Deed s c (accepted v (withFeeder f (s .box)) s)
+  besides c v f b i q t m d a =
+      aside {c = c} 0 v f [] (record { free = b; fit = i; silent = q; still = t; mute = m; dry = d; unasked = a })
 
   -- one that only reads
   reads : (c : Call) (v : Values) → sign c (scanOf s) (accepted v (s .box) s) ≡ false → ticks c ≡ false → Mute v
-      → brought c (accepted v (s .box) s) ≡ [] → Deed s c (accepted v (s .box) s)
+      → brought c (accepted v (s .box) s) ≡ [] → asks c (accepted v (s .box) s) ≡ false → Deed s c (accepted v (s .box) s)
   reads c v = besides c v (s .box .feeder) refl (h .common .feeder)
 
   -- ---- scan calls
@@ -131,19 +138,19 @@ module _ (s : State) (h : Good s) where
       let r = s .box in
       let w = begins-well from count (not-false _ (k .0)) in
       let q = resting (scanOf s) r (not-false _ (k .1 .1 .0)) (h .phase) in
-      starts (or-l _ _ (k .1 .0))
+      starts (or-l _ _ (k .1 .0)) (not-false _ (k .1 .1 .0))
       (started-sound (settled from (r .settings .feeder)) count r (length (s .bytes)) (q .0) (h .common) (q .1) (w .0) (w .1) (w .2) (k .1 .1 .1 .0))
   scan-done (Stop j) k =
       let i = or-l _ _ (k .0) in
       stops i (eqb-true _ _ (not-false _ (or-r (idle (scanOf s)) _ (k .0)))) (stopped-sound (s .box) (length (s .bytes)) i h)
   scan-done (Abort j) k =
       aborts (or-l _ _ (k .0)) (eqb-true _ _ (not-false _ (or-r (idle (scanOf s)) _ (k .0)))) (ended-sound (s .box) (length (s .bytes)) (h .common))
-  scan-done (GetDestination j) k = reads (scan (GetDestination j)) _ refl refl (record { untimed = refl; uncounted = refl; unpictured = refl }) refl
+  scan-done (GetDestination j) k = reads (scan (GetDestination j)) _ refl refl (record { untimed = refl; uncounted = refl; unpictured = refl }) refl refl
   scan-done (Fetch called most reply) k =
       let i = or-l _ _ (k .0) in
       fetches i (fetched-sound (least (s .box .ring .stored) most (length reply)) (s .box) (length (s .bytes)) i (omega arith) h)
-  scan-done GetState k = reads (scan GetState) _ refl refl (record { untimed = refl; uncounted = refl; unpictured = refl }) refl
-  scan-done GetSideInformation k = reads (scan GetSideInformation) _ refl refl (record { untimed = refl; uncounted = refl; unpictured = refl }) refl
+  scan-done GetState k = reads (scan GetState) _ refl refl (record { untimed = refl; uncounted = refl; unpictured = refl }) refl refl
+  scan-done GetSideInformation k = reads (scan GetSideInformation) _ refl refl (record { untimed = refl; uncounted = refl; unpictured = refl }) refl refl
 
   -- ---- feeder calls
   resets-fit : FeederFit (resets (s .box .feeder))
@@ -174,14 +181,14 @@ module _ (s : State) (h : Good s) where
   feeder-done (Load j) k =
       let f = s .box .feeder in
       let i = refit Feed.Loaded (f .failure) f (free-path f (k .1 .1 .0) (h .common .feeder)) (h .common .feeder) in
-      besides (feeder (Load j)) nothing (loads f) (sym (k .1 .0)) i refl refl nothing-mute refl
+      besides (feeder (Load j)) nothing (loads f) (sym (k .1 .0)) i refl refl nothing-mute refl refl
   feeder-done (Eject j v) k =
-      besides (feeder (Eject j v)) nothing (ejects v (s .box .feeder)) (sym (k .1 .1 .0)) (ejects-fit v (k .1 .1 .1 .0)) refl refl nothing-mute refl
+      besides (feeder (Eject j v)) nothing (ejects v (s .box .feeder)) (sym (k .1 .1 .0)) (ejects-fit v (k .1 .1 .1 .0)) refl refl nothing-mute refl refl
   feeder-done (Reset j) k =
-      besides (feeder (Reset j)) nothing (resets (s .box .feeder)) (resets-free (k .1 .0)) resets-fit refl refl nothing-mute refl
-  feeder-done (SetFeederMode j m) k = reads (feeder (SetFeederMode j m)) nothing refl refl nothing-mute refl
-  feeder-done GetFeederState k = reads (feeder GetFeederState) _ refl refl (record { untimed = refl; uncounted = refl; unpictured = refl }) refl
-  feeder-done GetFeederMode k = reads (feeder GetFeederMode) _ refl refl (record { untimed = refl; uncounted = refl; unpictured = refl }) refl
+      besides (feeder (Reset j)) nothing (resets (s .box .feeder)) (resets-free (k .1 .0)) resets-fit refl refl nothing-mute refl refl
+  feeder-done (SetFeederMode j m) k = reads (feeder (SetFeederMode j m)) nothing refl refl nothing-mute refl refl
+  feeder-done GetFeederState k = reads (feeder GetFeederState) _ refl refl (record { untimed = refl; uncounted = refl; unpictured = refl }) refl refl
+  feeder-done GetFeederMode k = reads (feeder GetFeederMode) _ refl refl (record { untimed = refl; uncounted = refl; unpictured = refl }) refl refl
 
   -- ---- reports
   report-done : (c : Report) → Clear (reportRefusals c (s .box) (length (s .bytes))) → Deed s (report c) (reportEffect c s)
@@ -198,7 +205,7 @@ module _ (s : State) (h : Good s) where
   report-done (Tray v) k =
       let i = h .common .feeder in
       besides (report (Tray v)) nothing (trayAt v (s .box .feeder)) refl
-      (record { tray = leb-true v 1 (not-false _ (k .0)); path = i .path; jam = i .jam }) refl refl nothing-mute refl
+      (record { tray = leb-true v 1 (not-false _ (k .0)); path = i .path; jam = i .jam }) refl refl nothing-mute refl refl
   report-done (Path v) k =
       let c = report (Path v) in
       let f = s .box .feeder in
@@ -206,8 +213,8 @@ module _ (s : State) (h : Good s) where
       let q = scans-on (scanOf s) in
       pathed-cases (λ (x : Record). Deed s c (accepted nothing x s)) (s .box) v
       (λ e. jams e (caught-sound (s .box) (length (s .bytes)) e h))
-      (λ e. besides c nothing (jammed f) (sym (free-unless (scanOf s) (s .box) e (h .phase))) (jammed-fit f i) q refl nothing-mute refl)
-      (besides c nothing (pathAt 0 f) refl (record { tray = i .tray; path = omega arith; jam = refl }) q refl nothing-mute refl)
+      (λ e. besides c nothing (jammed f) (sym (free-unless (scanOf s) (s .box) e (h .phase))) (jammed-fit f i) q refl nothing-mute refl refl)
+      (besides c nothing (pathAt 0 f) refl (record { tray = i .tray; path = omega arith; jam = refl }) q refl nothing-mute refl refl)
   report-done Tick k = second (ticked-sound (s .box) (length (s .bytes)) h)
 
   pub tick-is : step s (report Tick) ≡ effect (report Tick) s
@@ -232,7 +239,7 @@ module _ (s : State) (h : Good s) where
 pub deed-sound : {s : State} {c : Call} {o : Outcome} → Good s → Deed s c o → Good (o .state)
 deed-sound {s} h (aside n v f reply a) = refeed (s .box) (length (s .bytes)) f (a .free) (a .fit) h
 deed-sound h (opens i g) = g
-deed-sound h (starts i g) = g
+deed-sound h (starts i e g) = g
 deed-sound h (stops i e g) = g
 deed-sound h (aborts i e g) = g
 deed-sound h (fetches i g) = g

@@ -8,6 +8,9 @@ pub mod RingLaws
 pub mod Answers
 pub mod Deeds
 pub mod Time
-pub mod Ends
+pub mod Holder
 pub mod Pictures
+pub mod Stops
+pub mod Ends
+pub mod Others
 pub mod Theorems

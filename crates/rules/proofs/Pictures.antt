@@ -1,7 +1,7 @@
 -- Demand 3, the pictures: the watcher's tagged queue agrees with the ring, and holds the present job's bytes alone.
-use Prim.Native.Nat.{ℕ, zero, suc, _<_}
+use Prim.Native.Nat.{ℕ, zero, suc, _+_, _<_}
 use mathlib.Core.Path.{_≡_, refl, sym, _∙_, ap, ap₂, subst}
-use mathlib.Core.Bool.{Bool, true, false, true≢false, false≢true}
+use mathlib.Core.Bool.{Bool, true, false, cond, true≢false, false≢true}
 use mathlib.Core.List.{List, [], _∷_, _++_, map, append-assoc, append-nil, map-append}
 use mathlib.Core.Option.{Option, none, some}
 use lib.ListN.{length, take, drop, take-append-drop}
@@ -13,19 +13,20 @@ use Rattle.rules.specs.declared.Record.{Record}
 use Rattle.rules.specs.Record.{idle, granting}
 use Rattle.rules.specs.Ring.{queue}
 use Rattle.rules.specs.Moves.{settled, given, readied, begun, released, drained, least, moved, fetched, filled, finished}
-use Rattle.rules.specs.Calls.{StartScan, Start, Stop, SideEnded, Tick, Call, scan, report, State, nothing, time, Outcome}
-use Rattle.rules.specs.Machine.{accepted, scanEffect, reportEffect, step}
+use Rattle.rules.specs.Calls.{StartScan, Start, Stop, Abort, GetDestination, Fetch, GetState, GetSideInformation, Load, Eject, Reset, SetFeederMode}
+use Rattle.rules.specs.Calls.{GetFeederState, GetFeederMode, Bytes, SideEnded, Tray, Path, Tick, Call, scan, feeder, report, State, nothing, time, Outcome}
+use Rattle.rules.specs.Calls.{lent}
+use Rattle.rules.specs.Machine.{accepted, scanEffect, feederEffect, reportEffect, effect, step}
 use Rattle.rules.specs.Watch as watch
-use Rattle.rules.specs.Watch.{scanOf, countIn, bytesIn, timeIn, plusOne, ordinal, Tagged, tag, byteOf, brought, wasted, waiting, World, after, live}
-use Rattle.rules.specs.Watch.{got}
-use Rattle.rules.specs.Promises.{All, Yields, Ended, before, idles}
+use Rattle.rules.specs.Watch.{scanOf, countIn, bytesIn, timeIn, plusOne, ordinal, Tagged, tag, byteOf, brought, wasted, waiting, World, after, live, holder}
+use Rattle.rules.specs.Promises.{All, Ends, Replied, asLent, written, Yields}
 use Rattle.rules.proofs.Choice.{clash, opened}
 use Rattle.rules.proofs.Sound.{Phase}
 use Rattle.rules.proofs.Cases.{started-cases, stopped-cases, drained-cases, fetched-cases, sideEnded-cases, ticked-cases}
 use Rattle.rules.proofs.RingLaws.{length-queue, put-queue, queue-drop, queue-take}
-use Rattle.rules.proofs.Answers.{Good}
+use Rattle.rules.proofs.Answers.{Good, by-step}
 use Rattle.rules.proofs.Deeds.{Deed, aside, opens, starts, stops, aborts, fetches, fills, sideEnds, jams, second, deed, step-sound}
-use Rattle.rules.proofs.Ends.{is-idle, deed-wakes, deed-untimed}
+use Rattle.rules.proofs.Holder.{deed-wakes, deed-untimed, holds, ends-idle}
 
 -- the bytes that stand in the ring
 abbrev pub content : State → List ℕ
@@ -62,7 +63,7 @@ deed-flows {s} h (opens {from} {count} {append} {asked} i g) =
     started-cases (λ (x : Record). Flows s c (accepted (time (granting asked .seconds)) x s))
     (given (settled append (s .box .settings .append)) asked (s .box)) (settled from (s .box .settings .feeder)) count
     (λ _. record { flow = λ _. as-was s }) (λ _. record { flow = λ _. as-was s })
-deed-flows {s} h (starts {j} {from} {count} i g) =
+deed-flows {s} h (starts {j} {from} {count} i p g) =
     let c = scan (Start j from count) in
     started-cases (λ (x : Record). Flows s c (accepted nothing x s)) (s .box)
     (settled from (s .box .settings .feeder)) count (λ _. record { flow = λ _. as-was s }) (λ _. record { flow = λ _. as-was s })
@@ -98,7 +99,7 @@ pub deed-takes : {s : State} {c : Call} {o : Outcome} → Good s → Deed s c o 
 unfolding scanEffect reportEffect
 deed-takes h (aside n v f reply a) = record { it = rw (a .mute .uncounted) (a .mute .unpictured); many = rw (a .mute .uncounted, a .mute .unpictured) }
 deed-takes h (opens i g) = record { it = refl; many = refl }
-deed-takes h (starts i g) = record { it = refl; many = refl }
+deed-takes h (starts i p g) = record { it = refl; many = refl }
 deed-takes h (stops i e g) = record { it = refl; many = refl }
 deed-takes h (aborts i e g) = record { it = refl; many = refl }
 deed-takes {s} h (fetches {called} {most} {reply} i g) =
@@ -153,6 +154,10 @@ map-tagged : (j : ℕ) (xs : List ℕ) → map byteOf (map (tag j) xs) ≡ xs
 map-tagged j [] = refl
 map-tagged j (x ∷ xs) = ap (λ (l : List ℕ). x ∷ l) (map-tagged j xs)
 
+length-bytes : (q : List Tagged) → length (map byteOf q) ≡ length q
+length-bytes [] = refl
+length-bytes (t ∷ q) = ap suc (length-bytes q)
+
 map-none : (q : List Tagged) → map byteOf q ≡ [] → q ≡ []
 map-none [] e = refl
 map-none (t ∷ q) e = cc
@@ -177,6 +182,9 @@ pub record Waiting (w : World) : Type 0 where
 
 idle-waiting : (w : World) → Waiting w → idle (scanOf (w .now)) ≡ true → waiting (w .past) ≡ []
 idle-waiting w h i = map-none _ (h .agrees ∙ nothing-there (w .now) (h .good) (rw i))
+
+pub none-waits : (w : World) → Waiting w → w .now .box .ring .stored ≡ 0 → waiting (w .past) ≡ []
+none-waits w h e = map-none _ (h .agrees ∙ ap (queue (w .now .bytes) (w .now .box .ring .start)) e)
 
 -- bytes in at the end, k out at the front
 among-on : (a g q t : List Tagged) (k : ℕ) → a ≡ g ++ q → a ++ t ≡ (g ++ take k q) ++ (drop k q ++ t)
@@ -246,26 +254,92 @@ live-waiting [] w h = h
 live-waiting (c ∷ cs) w h = live-waiting cs (after w c) (next-waiting w c h)
 
 -- ---- what a call yields
-pub yields : (w : World) → Waiting w → (c : Call) → Yields w (step (w .now) c)
-yields w h c =
-    let o = step (w .now) c in
-    let k = countIn (o .values) in
-    let x = deed-takes (h .good) (deed (w .now) (h .good) c) in
-    record {
-      bytes = x .it ∙ ap (take k) (sym (h .agrees)) ∙ sym (map-take k (waiting (w .past)));
-      count = x .many;
-      ours = ours-take _ k _ (h .ours);
-      gone = h .gone;
-      rest = drop k (waiting (w .past));
-      among =
-          h .among ∙ ap (λ (l : List Tagged). h .gone ++ l) (sym (take-append-drop k (waiting (w .past))))
-          ∙ sym (append-assoc (h .gone) (take k (waiting (w .past))) (drop k (waiting (w .past))));
-    }
+-- a reply at exit, whatever the box: as it was lent, or written with the bytes that the call reports
+pub replied : (s : State) (c : Call) → Replied (lent c) (bytesIn (step s c .values)) (step s c .reply)
+unfolding effect scanEffect feederEffect reportEffect
+replied s c =
+    by-step (λ (o : Outcome). Replied (lent c) (bytesIn (o .values)) (o .reply)) s c (λ _. asLent) (λ _ _ _ _. asLent) (λ _. go c)
+  where
+    go : (c : Call) → Replied (lent c) (bytesIn (effect c s .values)) (effect c s .reply)
+    go (scan (StartScan from count append asked)) = asLent
+    go (scan (Start j from count)) = asLent
+    go (scan (Stop j)) = asLent
+    go (scan (Abort j)) = asLent
+    go (scan (GetDestination j)) = asLent
+    go (scan (Fetch called most reply)) =
+        let k = least (s .box .ring .stored) most (length reply) in
+        let q = queue (s .bytes) (s .box .ring .start) k in
+        subst (λ (n : ℕ). Replied reply q (0xA5 ∷ 0x5A ∷ 0x06 ∷ n ∷ q ++ drop (4 + n) reply)) (length-queue (s .bytes) (s .box .ring .start) k) (written q)
+    go (scan GetState) = asLent
+    go (scan GetSideInformation) = asLent
+    go (feeder (Load j)) = asLent
+    go (feeder (Eject j v)) = asLent
+    go (feeder (Reset j)) = asLent
+    go (feeder (SetFeederMode j m)) = asLent
+    go (feeder GetFeederState) = asLent
+    go (feeder GetFeederMode) = asLent
+    go (report (Bytes bs)) = asLent
+    go (report SideEnded) = asLent
+    go (report (Tray v)) = asLent
+    go (report (Path v)) = asLent
+    go (report Tick) = asLent
 
--- ---- a job that has ended stays ended, and yields nothing more
-next-ended : (j : ℕ) (w : World) (c : Call) → Waiting w → Ended j w → Ended j (after w c)
+-- k of a call, and the first k of those that wait
+abbrev many : World → Call → ℕ
+many w c = countIn (step (w .now) c .values)
+
+abbrev pub got : World → Call → List Tagged
+got w c = take (many w c) (waiting (w .past))
+
+all-ours : (j : ℕ) (q : List Tagged) → Ours j q → All (λ (x : Tagged). _≡_ {A = Option ℕ} (some j) (some (x .job))) q
+all-ours j [] a = tt
+all-ours j (x ∷ q) a = (ap some (sym (a .0)), all-ours j q (a .1))
+
+module _ (w : World) (h : Waiting w) (c : Call) where
+  got-ours : Ours (ordinal (w .past)) (got w c)
+  got-ours = ours-take (ordinal (w .past)) (many w c) (waiting (w .past)) (h .ours)
+
+  got-none : idle (scanOf (w .now)) ≡ true → got w c ≡ []
+  got-none i = ap (take (many w c)) (idle-waiting w h i) ∙ take-nil (many w c)
+
+  took : Takes (w .now) (step (w .now) c)
+  took = deed-takes (h .good) (deed (w .now) (h .good) c)
+
+  told : bytesIn (step (w .now) c .values) ≡ map byteOf (got w c)
+  told = took .it ∙ ap (take (many w c)) (sym (h .agrees)) ∙ sym (map-take (many w c) (waiting (w .past)))
+
+  pub yields : (P : Tagged → Type 0) → All P (got w c) → Yields w c P
+  yields P each =
+      let q = waiting (w .past) in
+      record {
+        yield = got w c;
+        told = told;
+        count = sym (length-bytes (got w c)) ∙ ap length (sym told) ∙ took .many;
+        reply = subst (λ (l : List ℕ). Replied (lent c) l (step (w .now) c .reply)) told (replied (w .now) c);
+        gone = h .gone;
+        rest = drop (many w c) q;
+        among =
+            h .among ∙ ap (λ (l : List Tagged). h .gone ++ l) (sym (take-append-drop (many w c) q))
+            ∙ sym (append-assoc (h .gone) (got w c) (drop (many w c) q));
+        each = each;
+      }
+
+  -- all are the holder's; in Idle there are none
+  of-holder : (t : Bool) → idle (scanOf (w .now)) ≡ t → All (λ (x : Tagged). cond t none (some (ordinal (w .past))) ≡ some (x .job)) (got w c)
+  of-holder true i = rw (got-none i) tt
+  of-holder false i = all-ours (ordinal (w .past)) (got w c) got-ours
+
+  pub holder-yields : Yields w c (λ (x : Tagged). holder w ≡ some (x .job))
+  holder-yields = yields (λ (x : Tagged). holder w ≡ some (x .job)) (of-holder (idle (scanOf (w .now))) refl)
+
+-- ---- a job that is over stays over, and yields nothing more
+pub data Over (j : ℕ) (w : World) : Type 0 where
+  before : j < ordinal (w .past) → Over j w
+  idles : j ≡ ordinal (w .past) → idle (scanOf (w .now)) ≡ true → Over j w
+
+next-over : (j : ℕ) (w : World) (c : Call) → Waiting w → Over j w → Over j (after w c)
 unfolding after
-next-ended j w c h x = go x (timeIn (o .values)) refl
+next-over j w c h x = go x (timeIn (o .values)) refl
   where
     o : Outcome
     o = step (w .now) c
@@ -278,27 +352,28 @@ next-ended j w c h x = go x (timeIn (o .values)) refl
     still true e i t = e
     still false e i t = clash (deed-wakes (deed (w .now) (h .good) c) i e .1) (ap opened t)
 
-    go : Ended j w → (t : Option ℕ) → timeIn (o .values) ≡ t → Ended j (after w c)
+    go : Over j w → (t : Option ℕ) → timeIn (o .values) ≡ t → Over j (after w c)
     go (before l) t e = before (more (timeIn (o .values)) l)
     go (idles n i) none e =
-        idles (n ∙ sym (ap (λ (x : Option ℕ). plusOne x (ordinal (w .past))) e)) (is-idle _ (still (idle (scanOf (o .state))) refl (ap idle i) e))
-    go (idles n i) (some t) e = before (subst (λ (x : Option ℕ). j < plusOne x (ordinal (w .past))) (sym e) (omega arith))
+        idles (n ∙ sym (ap (λ (x : Option ℕ). plusOne x (ordinal (w .past))) e)) (still (idle (scanOf (o .state))) refl i e)
+    go (idles n i) (some t) e = before (subst (λ (x : Option ℕ). j < plusOne x (ordinal (w .past))) (sym e) (omega (arith, n)))
 
--- a held job that is no longer held has ended
-pub just-ended : (w : World) (c : Call) → Good (w .now) → idle (scanOf (w .now)) ≡ false → scanOf (step (w .now) c .state) ≡ Scan.Idle
-    → Ended (ordinal (w .past)) (after w c)
+-- a job that a call ends is over
+pub just-over : (j : ℕ) (w : World) (c : Call) → Good (w .now) → Ends j w c → Over j (after w c)
 unfolding after
-just-ended w c h i e = idles (sym (ap (λ (x : Option ℕ). plusOne x (ordinal (w .past))) (deed-untimed (deed (w .now) h c) i))) e
+just-over j w c h x = idles (sym (unmoved (holds w (x .held)))) (ends-idle j w c h x)
+  where
+    unmoved : (idle (scanOf (w .now)) ≡ false) × (ordinal (w .past) ≡ j) → ordinal (after w c .past) ≡ j
+    unmoved (i, e) = ap (λ (x : Option ℕ). plusOne x (ordinal (w .past))) (deed-untimed (deed (w .now) h c) i) ∙ e
 
-pub live-ended : (j : ℕ) (cs : List Call) (w : World) → Waiting w → Ended j w → Ended j (live w cs)
+pub live-over : (j : ℕ) (cs : List Call) (w : World) → Waiting w → Over j w → Over j (live w cs)
 unfolding live
-live-ended j [] w h x = x
-live-ended j (c ∷ cs) w h x = live-ended j cs (after w c) (next-waiting w c h) (next-ended j w c h x)
+live-over j [] w h x = x
+live-over j (c ∷ cs) w h x = live-over j cs (after w c) (next-waiting w c h) (next-over j w c h x)
 
-pub ended-yields : (j : ℕ) (w : World) → Waiting w → Ended j w → (c : Call) → All (λ (t : Tagged). j < t .job) (got w (step (w .now) c))
-ended-yields j w h (before l) c =
-    let k = countIn (step (w .now) c .values) in
-    ours-after j (ordinal (w .past)) (take k (waiting (w .past))) l (ours-take _ k (waiting (w .past)) (h .ours))
-ended-yields j w h (idles n i) c =
-    let k = countIn (step (w .now) c .values) in
-    rw (idle-waiting w h (ap idle i), take-nil k) tt
+pub over-yields : (j : ℕ) (w : World) → Waiting w → Over j w → (c : Call) → Yields w c (λ (x : Tagged). j < x .job)
+over-yields j w h x c = yields w h c (λ (x : Tagged). j < x .job) (go x)
+  where
+    go : Over j w → All (λ (x : Tagged). j < x .job) (got w c)
+    go (before l) = ours-after j (ordinal (w .past)) (got w c) l (got-ours w h c)
+    go (idles n i) = rw (got-none w h c i) tt

@@ -1,23 +1,22 @@
 -- What the rules promise, each theorem with its whole statement. The words are those of specs/Promises.antt.
 use Prim.Native.Nat.{ℕ, _-_, _≤_, _<_}
-use mathlib.Core.Path.{_≡_, refl, sym, _∙_, ap, ap₂}
+use mathlib.Core.Path.{_≡_, refl, sym, _∙_, ap, ap₂, subst}
 use mathlib.Core.Logic.{_↔_, _≢_}
-use mathlib.Core.Bool.{Bool, true, false, _||_, cond, or-true, true≢false}
-use mathlib.Core.List.{List, [], _∷_}
+use mathlib.Core.Bool.{Bool, true, false, _&&_, _||_, cond, or-true, true≢false, false≢true}
+use mathlib.Core.List.{List, [], _∷_, _++_}
 use mathlib.Core.Option.{some}
 use lib.Dec.{eqb, leb, ltb}
 use lib.IntN.{pos, negsuc}
 use lib.ListN.{length}
 use native.Mathlib.Omega.{arith}
 use borrow.Author.Tests.{eqb-true, eq-eqb, le-leb, leb-true, ltb-false, ltb-true}
-use Rattle.rules.specs.declared.Scan.{Scan}
 use Rattle.rules.specs.declared.Record.{Record}
-use Rattle.rules.specs.Record.{greatest, negatives, endless, mostSides, signed, counted, idle, sound}
-use Rattle.rules.specs.Moves.{nextJob}
-use Rattle.rules.specs.Calls.{Tick, Call, report, n604, named, State, Outcome}
-use Rattle.rules.specs.Machine.{runBy, lines, step, Ran, run, start, refusals}
-use Rattle.rules.specs.Watch.{ordinal, wasAccepted, sign, scanOf, Tagged, World, after, live, born, lived, told, got}
-use Rattle.rules.specs.Promises.{reasons, below, bears, All, Ringed, First, OneOf, Refusal, Sides, OnTime, Fate, Silent, NotPutOff, Yields, Ended}
+use Rattle.rules.specs.Record.{greatest, negatives, endless, mostSides, signed, counted, sound}
+use Rattle.rules.specs.Moves.{nextJob, name}
+use Rattle.rules.specs.Calls.{StartScan, Fetch, Call, scan, n604, named, State, Outcome}
+use Rattle.rules.specs.Machine.{listed, sidesListed, same, runBy, lines, step, Ran, run, start, refusals}
+use Rattle.rules.specs.Watch.{wasAccepted, sign, scanOf, Tagged, World, after, live, born, lived, holder, told}
+use Rattle.rules.specs.Promises.{reasons, below, bears, All, Ringed, First, OneOf, Refusal, Sides, Ends, OnTime, Fate, Silent, NotPutOff, OfAnother, Yields}
 use Rattle.rules.specs.Table.{failing, table}
 use Rattle.rules.proofs.Agrees as agrees
 use Rattle.rules.proofs.Choice.{choice}
@@ -26,8 +25,12 @@ use Rattle.rules.proofs.Answers as answers
 use Rattle.rules.proofs.Answers.{Good}
 use Rattle.rules.proofs.Deeds as deeds
 use Rattle.rules.proofs.Time.{Timely, live-timely}
+use Rattle.rules.proofs.Holder.{holds}
+use Rattle.rules.proofs.Pictures.{Waiting, next-waiting, live-waiting, holder-yields, just-over, live-over, over-yields}
+use Rattle.rules.proofs.Stops.{Marked, live-marked}
 use Rattle.rules.proofs.Ends.{on-time-at, fate, not-put-off}
-use Rattle.rules.proofs.Pictures.{just-ended, Waiting, live-waiting, yields, live-ended, ended-yields}
+use Rattle.rules.proofs.Others as others
+use Rattle.rules.proofs.Others.{Numbers, live-numbers}
 
 -- ---- 1. In order: the number is n exactly when n's test holds and no earlier one does, and 0 exactly when none holds
 pub in-order : (s : State) (c : Call) (n : ℕ) → (step s c .number ≡ n) ↔ First n (lines c s)
@@ -110,44 +113,93 @@ lived-waiting : (ring : List ℕ) → Ringed ring → (cs : List Call) → Waiti
 lived-waiting ring l cs =
     live-waiting cs (born ring) (record { good = fresh-good ring l; agrees = refl; ours = tt; gone = []; among = refl })
 
+lived-marked : (ring : List ℕ) → Ringed ring → (cs : List Call) → Marked (lived ring cs)
+lived-marked ring l cs = live-marked cs (born ring) (record { good = fresh-good ring l; mark = λ u. absurd (false≢true u) })
+
+lived-numbers : (ring : List ℕ) → Ringed ring → (cs : List Call) → Numbers (lived ring cs)
+lived-numbers ring l cs = live-numbers cs (born ring) (record { good = fresh-good ring l; most = omega arith })
+
+-- a list, and then another, is the two lists joined
+pub live-joined : (cs ds : List Call) (w : World) → live (live w cs) ds ≡ live w (cs ++ ds)
+unfolding live
+live-joined [] ds w = refl
+live-joined (c ∷ cs) ds w = live-joined cs ds (after w c)
+
 -- ---- 4. On time
-pub on-time : (ring : List ℕ) → Ringed ring → (cs : List Call) → idle (scanOf (lived ring cs .now)) ≡ false
-    → OnTime (lived ring cs) (step (lived ring cs .now) (report Tick))
-on-time ring l cs i = on-time-at (lived ring cs) (lived-timely ring l cs) i
+pub on-time : (ring : List ℕ) → Ringed ring → (cs : List Call) (j : ℕ) → holder (lived ring cs) ≡ some j → OnTime j (lived ring cs)
+on-time ring l cs j x = on-time-at (lived ring cs) (lived-timely ring l cs) (holds (lived ring cs) x .0) x
 
 -- ---- 5. Never otherwise
-pub never-otherwise : (ring : List ℕ) → Ringed ring → (cs : List Call) → idle (scanOf (lived ring cs .now)) ≡ false → (c : Call)
-    → Fate (lived ring cs) c (step (lived ring cs .now) c)
-never-otherwise ring l cs i c = fate (lived ring cs) (lived-timely ring l cs) i c
+pub never-otherwise : (ring : List ℕ) → Ringed ring → (cs : List Call) (j : ℕ) → holder (lived ring cs) ≡ some j → (c : Call)
+    → Fate j (lived ring cs) c
+never-otherwise ring l cs j x c =
+    let w = lived ring cs in
+    fate w (lived-timely ring l cs) (lived-marked ring l cs) (lived-waiting ring l cs) (holds w x .0) x c
 
 -- ---- 6. Never put off
-pub never-put-off : (ring : List ℕ) → Ringed ring → (cs stretch : List Call) → idle (scanOf (lived ring cs .now)) ≡ false
-    → Silent (lived ring cs) stretch → NotPutOff (lived ring cs) (live (lived ring cs) stretch) stretch
-never-put-off ring l cs stretch i s = not-put-off stretch (lived ring cs) (lived-timely ring l cs) i s
+pub never-put-off : (ring : List ℕ) → Ringed ring → (cs stretch : List Call) (j : ℕ) → holder (lived ring cs) ≡ some j
+    → Silent (lived ring cs) stretch → NotPutOff j (lived ring cs) (lived ring (cs ++ stretch)) stretch
+never-put-off ring l cs stretch j x s =
+    subst (λ (v : World). NotPutOff j (lived ring cs) v stretch) (live-joined cs stretch (born ring))
+    (not-put-off j stretch (lived ring cs) (lived-timely ring l cs) x s)
 
--- a refused call is no sign of life, and a call that bears another job's number is refused
+-- a refused call is no sign of life
 pub refused-silent : (s : State) (c : Call) → wasAccepted (step s c) ≡ false → sign c (scanOf s) (step s c) ≡ false
 refused-silent s c = answers.refused-silent s c
 
-pub others-refused : (s : State) (c : Call) (j : ℕ) → bears c ≡ some j → j ≢ s .box .job .held → wasAccepted (step s c) ≡ false
-others-refused s c j = answers.others-refused s c j
+-- a call that bears another number is refused, in any state
+pub bearing-refused : (s : State) (c : Call) (j : ℕ) → bears c ≡ some j → j ≢ s .box .job .held → wasAccepted (step s c) ≡ false
+bearing-refused s c j = answers.bearing-refused s c j
 
--- ---- 7. Pictures: what any call yields was accepted for the job then held, in order
-pub provenance : (ring : List ℕ) → Ringed ring → (cs : List Call) (c : Call) → Yields (lived ring cs) (step (lived ring cs .now) c)
-provenance ring l cs c = yields (lived ring cs) (lived-waiting ring l cs) c
+-- the box's test of names is equality, and ten digits settle the job's number: names of different jobs differ
+pub same-is : (xs ys : List ℕ) → (same xs ys ≡ true) ↔ (xs ≡ ys)
+same-is xs ys = others.same-is xs ys
 
--- a job that was held and is no longer held has ended, however it ended
-pub over-ended : (ring : List ℕ) → Ringed ring → (cs : List Call) (c : Call) → idle (scanOf (lived ring cs .now)) ≡ false
-    → scanOf (step (lived ring cs .now) c .state) ≡ Scan.Idle → Ended (ordinal (lived ring cs .past)) (after (lived ring cs) c)
-over-ended ring l cs c i e = just-ended (lived ring cs) c (lived-timely ring l cs .good) i e
+pub names-differ : (r x : Record) → r .job .held ≤ greatest → x .job .held ≤ greatest → r .job .held ≢ x .job .held → name r ≢ name x
+names-differ r x l m d = others.names-differ r x (omega (arith, l)) (omega (arith, m)) d
 
--- from the second the j-th job has ended no call in any later list yields a byte but of a later job
-pub no-late-byte : (ring : List ℕ) → Ringed ring → (cs later : List Call) (j : ℕ) → Ended j (lived ring cs) → (c : Call)
-    → All (λ (t : Tagged). j < t .job) (got (live (lived ring cs) later) (step (live (lived ring cs) later .now) c))
-no-late-byte ring l cs later j e c =
+-- while a job is held a fetch by another job's name is 404
+pub other-name-404 : (ring : List ℕ) → Ringed ring → (cs : List Call) (j : ℕ) → holder (lived ring cs) ≡ some j
+    → (x : Record) (most : ℕ) (reply : List ℕ) → x .job .held ≤ greatest → x .job .held ≢ lived ring cs .now .box .job .held
+    → step (lived ring cs .now) (scan (Fetch (name x) most reply)) .number ≡ 404
+other-name-404 ring l cs j h =
+    let n = lived-numbers ring l cs in
+    others.fetch-404 (lived ring cs .now) (n .good) (n .most) (holds (lived ring cs) h .0)
+
+-- and StartScan is 501, or 601 where a value is outside its list
+pub held-501 : (ring : List ℕ) → Ringed ring → (cs : List Call) (j : ℕ) → holder (lived ring cs) ≡ some j → (from count append asked : ℕ)
+    → step (lived ring cs .now) (scan (StartScan from count append asked)) .number
+    ≡ cond (listed append && sidesListed from count (lived ring cs .now .box)) 501 601
+held-501 ring l cs j h =
+    let n = lived-numbers ring l cs in
+    others.start-scan-501 (lived ring cs .now) (n .good) (n .most) (holds (lived ring cs) h .0)
+
+-- so every call of another job is refused, and is no sign of life
+pub others-refused : (ring : List ℕ) → Ringed ring → (cs : List Call) (j : ℕ) → holder (lived ring cs) ≡ some j
+    → (c : Call) → OfAnother (lived ring cs .now) c
+    → (wasAccepted (step (lived ring cs .now) c) ≡ false) × (sign c (scanOf (lived ring cs .now)) (step (lived ring cs .now) c) ≡ false)
+others-refused ring l cs j h c a =
+    let n = lived-numbers ring l cs in
+    let s = lived ring cs .now in
+    let e = others.others-refused s (n .good) (n .most) (holds (lived ring cs) h .0) c a in
+    (e, refused-silent s c e)
+
+-- ---- 7. Pictures: what any call reports, and what stands in its reply, was accepted for the job then held, in order
+pub provenance : (ring : List ℕ) → Ringed ring → (cs : List Call) (c : Call)
+    → Yields (lived ring cs) c (λ (t : Tagged). holder (lived ring cs) ≡ some (t .job))
+provenance ring l cs c = holder-yields (lived ring cs) (lived-waiting ring l cs) c
+
+-- once a call has ended the j-th job, however it ended, what any call after any later list reports, and what stands in its
+-- reply, was accepted for a job begun later
+pub no-late-byte : (ring : List ℕ) → Ringed ring → (cs : List Call) (c : Call) (j : ℕ) → Ends j (lived ring cs) c
+    → (later : List Call) (d : Call) → Yields (lived ring (cs ++ c ∷ later)) d (λ (t : Tagged). j < t .job)
+unfolding live
+no-late-byte ring l cs c j e later d =
     let w = lived ring cs in
     let h = lived-waiting ring l cs in
-    ended-yields j (live w later) (live-waiting later w h) (live-ended j later w h e) c
+    subst (λ (v : World). Yields v d (λ (t : Tagged). j < t .job)) (live-joined cs (c ∷ later) (born ring))
+    (over-yields j (live w (c ∷ later)) (live-waiting (c ∷ later) w h)
+    (live-over j later (after w c) (next-waiting w c h) (just-over j w c (h .good) e)) d)
 
 -- ---- 8. Settled: any two outcomes that a contract `result ≡ definition` allows are equal
 pub settled : {A : Type 0} {x y d : A} → x ≡ d → y ≡ d → x ≡ y

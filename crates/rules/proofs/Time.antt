@@ -58,13 +58,6 @@ not-last Scan.Scanning r k p l z = false≢true l
 not-last Scan.Finishing r k p l z = omega (arith, eqb-true (r .ring .stored - k) 0 l, leb-false 1 k z, p .full)
 not-last Scan.Erred r k p l z = false≢true l
 
-pub scans : (x : Scan) → scanning x ≡ true → idle x ≡ false
-scans Scan.Idle e = absurd (false≢true e)
-scans Scan.Pending e = refl
-scans Scan.Scanning e = refl
-scans Scan.Finishing e = refl
-scans Scan.Erred e = refl
-
 pub deed-counts : {s : State} {c : Call} {o : Outcome} → Good s → Deed s c o → Counts s c o
 unfolding scanEffect reportEffect given readied begun released moved filled finished
 deed-counts h (aside n v f reply a) =
@@ -74,7 +67,7 @@ deed-counts {s} h (opens {from} {count} {append} {asked} i g) =
     started-cases (λ (x : Record). Counts s c (accepted (time (granting asked .seconds)) x s))
     (given (settled append (s .box .settings .append)) asked (s .box)) (settled from (s .box .settings .feeder)) count
     (λ _. record { grant = refl; count = λ _. alive refl refl }) (λ _. record { grant = refl; count = λ _. alive refl refl })
-deed-counts {s} h (starts {j} {from} {count} i g) =
+deed-counts {s} h (starts {j} {from} {count} i p g) =
     let c = scan (Start j from count) in
     started-cases (λ (x : Record). Counts s c (accepted nothing x s)) (s .box)
     (settled from (s .box .settings .feeder)) count

@@ -1,23 +1,24 @@
 -- What the theorems say, in the words of the three demands. The theorems stand in proofs/Theorems.antt.
 use Prim.Native.Nat.{ℕ, suc, _+_, _≤_, _<_}
 use mathlib.Core.Path.{_≡_}
+use mathlib.Core.Logic.{_≢_}
 use mathlib.Core.Bool.{Bool, true, false, _&&_, _||_, cond}
 use mathlib.Core.List.{List, [], _∷_, _++_, map}
 use mathlib.Core.Option.{Option, none, some}
 use lib.Dec.{eqb, ltb}
 use lib.IntN.{ℤ, pos, negsuc}
-use lib.ListN.{length}
-use Rattle.rules.specs.declared.Scan.{Scan}
+use lib.ListN.{length, drop}
 use Rattle.rules.specs.declared.Failure.{Failure}
 use Rattle.rules.specs.declared.Record.{Record}
-use Rattle.rules.specs.Record.{mostSides, mostRing, idle, pending, erred, on}
+use Rattle.rules.specs.Record.{greatest, mostSides, mostRing, pending, erred}
 use Rattle.rules.specs.Feeder.{unloads}
-use Rattle.rules.specs.Moves.{withFeeder}
+use Rattle.rules.specs.Moves.{withFeeder, name}
 use Rattle.rules.specs.Calls.{StartScan, Start, Stop, Abort, GetDestination, Fetch, GetState, GetSideInformation, Eject, Reset, SetFeederMode}
 use Rattle.rules.specs.Calls.{GetFeederState, GetFeederMode, rowOf, Load, SideEnded, Tick, Call, scan, feeder, report, Reason, numberOf, State, nothing}
 use Rattle.rules.specs.Calls.{picture, Outcome, lent, Line, refuse, leaving, to}
 use Rattle.rules.specs.Machine.{step}
-use Rattle.rules.specs.Watch.{scanOf, bytesIn, countIn, sign, ticks, seconds, ordinal, Tagged, byteOf, bytesAccepted, World, after, dueSecond, got}
+use Rattle.rules.specs.Watch.{scanOf, bytesIn, countIn, sign, ticks, seconds, Tagged, byteOf, bytesAccepted, waiting, stopAsked, World, after, holder}
+use Rattle.rules.specs.Watch.{dueSecond}
 
 -- every member of a list has a property
 abbrev pub All : {A : Type 0} → (A → Type 0) → List A → Type 0
@@ -77,13 +78,19 @@ Sides (pos n) = n ≤ mostSides
 Sides (negsuc n) = n ≡ 0
 
 -- ---- demand 3
--- the next Tick ends the job held, with FailureCode Timeout, exactly when the seconds then reach the limit; else it stays
-pub record OnTime (w : World) (o : Outcome) : Type 0 where
+-- a call ends the j-th job: it is held before the call and not after it
+pub record Ends (j : ℕ) (w : World) (c : Call) : Type 0 where
+  pub held : holder w ≡ some j
+  pub over : holder (after w c) ≢ some j
+
+-- the next Tick ends the job held exactly when the seconds then reach the limit, and leaves FailureCode Timeout where nobody is
+-- held after it; else the job stays, and its state
+pub record OnTime (j : ℕ) (w : World) : Type 0 where
   pub soon : seconds (w .past) < dueSecond w
-  pub ends : suc (seconds (w .past)) ≡ dueSecond w
-      → (scanOf (o .state) ≡ Scan.Idle) × (o .state .box .job .held ≡ 0) × (o .state .box .scanner .failure ≡ Failure.Timeout)
-  pub stays : suc (seconds (w .past)) < dueSecond w
-      → (scanOf (o .state) ≡ scanOf (w .now)) × (o .state .box .job .held ≡ w .now .box .job .held)
+  pub ends : suc (seconds (w .past)) ≡ dueSecond w → Ends j w (report Tick)
+  pub why : suc (seconds (w .past)) ≡ dueSecond w → holder (after w (report Tick)) ≡ none
+      → after w (report Tick) .now .box .scanner .failure ≡ Failure.Timeout
+  pub stays : suc (seconds (w .past)) < dueSecond w → (holder (after w (report Tick)) ≡ some j) × (scanOf (after w (report Tick) .now) ≡ scanOf (w .now))
 
 -- the job number that a call bears
 abbrev pub bears : Call → Option ℕ
@@ -103,19 +110,20 @@ bears (feeder GetFeederState) = none
 bears (feeder GetFeederMode) = none
 bears (report c) = none
 
--- what may end the job held: that Tick, Stop in Pending or Erred, Abort, a drain step with a stop asked
-pub data EndsBy (w : World) (o : Outcome) : Call → Type 0 where
-  time : suc (seconds (w .past)) ≡ dueSecond w → EndsBy w o (report Tick)
-  stop : {j : ℕ} → j ≡ w .now .box .job .held → (pending (scanOf (w .now)) || erred (scanOf (w .now))) ≡ true → EndsBy w o (scan (Stop j))
-  abort : {j : ℕ} → j ≡ w .now .box .job .held → EndsBy w o (scan (Abort j))
-  lastFetch : {name reply bytes : List ℕ} {most k : ℕ} → on (w .now .box .job .stop) ≡ true → o .values ≡ picture k true bytes
-      → EndsBy w o (scan (Fetch name most reply))
-  sideEnd : on (w .now .box .job .stop) ≡ true → w .now .box .ring .stored ≡ 0 → EndsBy w o (report SideEnded)
+-- what may end the job held: that Tick, Stop in Pending or Erred, Abort, or, where a Stop was accepted since the side began,
+-- a fetch that says last, or Side ended with no byte waiting
+pub data EndsBy (w : World) : Call → Type 0 where
+  time : suc (seconds (w .past)) ≡ dueSecond w → EndsBy w (report Tick)
+  stop : {j : ℕ} → j ≡ w .now .box .job .held → (pending (scanOf (w .now)) || erred (scanOf (w .now))) ≡ true → EndsBy w (scan (Stop j))
+  abort : {j : ℕ} → j ≡ w .now .box .job .held → EndsBy w (scan (Abort j))
+  lastFetch : {name reply bytes : List ℕ} {most k : ℕ} → stopAsked (w .past) ≡ true
+      → step (w .now) (scan (Fetch name most reply)) .values ≡ picture k true bytes → EndsBy w (scan (Fetch name most reply))
+  sideEnd : stopAsked (w .past) ≡ true → waiting (w .past) ≡ [] → EndsBy w (report SideEnded)
 
--- the job held is held on under its number, or has ended by one of these
-pub data Fate (w : World) (c : Call) (o : Outcome) : Type 0 where
-  held : idle (scanOf (o .state)) ≡ false → o .state .box .job .held ≡ w .now .box .job .held → Fate w c o
-  over : scanOf (o .state) ≡ Scan.Idle → o .state .box .job .held ≡ 0 → EndsBy w o c → Fate w c o
+-- the j-th job is held on, under its number, or ends by one of these
+pub data Fate (j : ℕ) (w : World) (c : Call) : Type 0 where
+  held : holder (after w c) ≡ some j → after w c .now .box .job .held ≡ w .now .box .job .held → Fate j w c
+  over : Ends j w c → EndsBy w c → Fate j w c
 
 -- a stretch of calls with no sign of life, and its Ticks
 abbrev pub Silent : World → List Call → Type 0
@@ -126,23 +134,32 @@ abbrev pub ticksIn : List Call → ℕ
 ticksIn [] = 0
 ticksIn (c ∷ cs) = cond (ticks c) (suc (ticksIn cs)) (ticksIn cs)
 
--- while the job is held after such a stretch from w to v, the second that was due is due and only Ticks moved the count;
--- once the Ticks reach it the job is over
-pub record NotPutOff (w v : World) (cs : List Call) : Type 0 where
-  pub same : idle (scanOf (v .now)) ≡ false → dueSecond v ≡ dueSecond w
-  pub count : idle (scanOf (v .now)) ≡ false → seconds (v .past) ≡ seconds (w .past) + ticksIn cs
-  pub over : dueSecond w ≤ seconds (w .past) + ticksIn cs → scanOf (v .now) ≡ Scan.Idle
+-- while the j-th job is held after such a stretch from w to v, the second that was due is due and only Ticks moved the
+-- count; once the Ticks reach it the job is no longer held
+pub record NotPutOff (j : ℕ) (w v : World) (cs : List Call) : Type 0 where
+  pub same : holder v ≡ some j → dueSecond v ≡ dueSecond w
+  pub count : holder v ≡ some j → seconds (v .past) ≡ seconds (w .past) + ticksIn cs
+  pub over : dueSecond w ≤ seconds (w .past) + ticksIn cs → holder v ≢ some j
 
--- a fetch yields, in order, bytes that stand together among all the accepted ones, each accepted for the job held
-pub record Yields (w : World) (o : Outcome) : Type 0 where
-  pub bytes : bytesIn (o .values) ≡ map byteOf (got w o)
-  pub count : length (bytesIn (o .values)) ≡ countIn (o .values)
-  pub ours : All (λ (t : Tagged). t .job ≡ ordinal (w .past)) (got w o)
+-- a call of another job than the one held: it bears another number, fetches by another number's name, or asks for a job
+pub data OfAnother (s : State) : Call → Type 0 where
+  bearing : {c : Call} {j : ℕ} → bears c ≡ some j → j ≢ s .box .job .held → OfAnother s c
+  naming : (x : Record) {most : ℕ} {reply : List ℕ} → x .job .held ≤ greatest → x .job .held ≢ s .box .job .held
+      → OfAnother s (scan (Fetch (name x) most reply))
+  asking : {from count append asked : ℕ} → OfAnother s (scan (StartScan from count append asked))
+
+-- a reply at exit with these bytes in it: as it was lent where there are none, or the head, the bytes, and then as it was lent
+pub data Replied (was : List ℕ) : List ℕ → List ℕ → Type 0 where
+  asLent : Replied was [] was
+  written : (bytes : List ℕ) → Replied was bytes (0xA5 ∷ 0x5A ∷ 0x06 ∷ length bytes ∷ bytes ++ drop (4 + length bytes) was)
+
+-- what a call reports, and what stands in its reply, are bytes that stand together among all the accepted ones, in order
+pub record Yields (w : World) (c : Call) (P : Tagged → Type 0) : Type 0 where
+  pub yield : List Tagged
+  pub told : bytesIn (step (w .now) c .values) ≡ map byteOf yield
+  pub count : length yield ≡ countIn (step (w .now) c .values)
+  pub reply : Replied (lent c) (map byteOf yield) (step (w .now) c .reply)
   pub gone : List Tagged
   pub rest : List Tagged
-  pub among : bytesAccepted (w .past) ≡ gone ++ got w o ++ rest
-
--- the j-th job has ended, however it ended
-pub data Ended (j : ℕ) (w : World) : Type 0 where
-  before : j < ordinal (w .past) → Ended j w
-  idles : j ≡ ordinal (w .past) → scanOf (w .now) ≡ Scan.Idle → Ended j w
+  pub among : bytesAccepted (w .past) ≡ gone ++ yield ++ rest
+  pub each : All P yield

@@ -1,11 +1,12 @@
--- A list of calls as a watcher sees it: what happened, newest first. The seconds, the granted time, the job's ordinal and
--- whose the waiting bytes are come from that alone; the watcher never reads quiet, granted or the ring.
+-- A list of calls as a watcher sees it: what happened, newest first. The seconds, the granted time, the job's ordinal, whose
+-- the waiting bytes are and whether a stop is asked come from that alone; the watcher never reads quiet, granted, the stop
+-- mark or the ring.
 use Prim.Native.Nat.{ℕ, suc}
-use mathlib.Core.Bool.{Bool, true, false, _&&_, _||_, cond}
+use mathlib.Core.Bool.{Bool, true, false, not, _&&_, _||_, cond}
 use mathlib.Core.List.{List, [], _∷_, _++_, map}
 use mathlib.Core.Option.{Option, none, some}
 use lib.Dec.{eqb, leb}
-use lib.ListN.{length, take, drop}
+use lib.ListN.{length, drop}
 use Rattle.rules.specs.declared.Scan.{Scan}
 use Rattle.rules.specs.Record.{faultTime, usualTime, idle, scanning, erred}
 use Rattle.rules.specs.Calls.{ScanCall, StartScan, Start, Stop, Abort, GetDestination, Fetch, GetState, GetSideInformation, Report, Bytes, SideEnded}
@@ -163,6 +164,43 @@ waiting (e ∷ es) =
     cond (wasted (scanOf (e .outcome .state))) []
     (drop (countIn (e .outcome .values)) (waiting es) ++ map (tag (ordinal (e ∷ es))) (brought (e .call) (e .outcome)))
 
+-- ---- a side begins: Scanning after a call before which it was not, or after an accepted Side ended
+abbrev pub reportEnds : Report → Bool
+reportEnds (Bytes bs) = false
+reportEnds SideEnded = true
+reportEnds (Tray v) = false
+reportEnds (Path v) = false
+reportEnds Tick = false
+
+abbrev pub endsSide : Call → Outcome → Bool
+endsSide (scan c) o = false
+endsSide (feeder c) o = false
+endsSide (report c) o = reportEnds c && wasAccepted o
+
+abbrev pub begins : Call → Scan → Outcome → Bool
+begins c before o = scanning (scanOf (o .state)) && (not (scanning before) || endsSide c o)
+
+-- an accepted Stop
+abbrev pub scanAsks : ScanCall → Bool
+scanAsks (StartScan from c append asked) = false
+scanAsks (Start j from c) = false
+scanAsks (Stop j) = true
+scanAsks (Abort j) = false
+scanAsks (GetDestination j) = false
+scanAsks (Fetch name most reply) = false
+scanAsks GetState = false
+scanAsks GetSideInformation = false
+
+abbrev pub asks : Call → Outcome → Bool
+asks (scan c) o = scanAsks c && wasAccepted o
+asks (feeder c) o = false
+asks (report c) o = false
+
+-- a Stop was accepted since the side began
+abbrev pub stopAsked : List Event → Bool
+stopAsked [] = false
+stopAsked (e ∷ es) = not (begins (e .call) (e .before) (e .outcome)) && (asks (e .call) (e .outcome) || stopAsked es)
+
 -- ---- a box, and what has happened to it
 pub record World : Type 0 where
   pub now : State
@@ -185,6 +223,10 @@ born ring = record { now = start ring; past = [] }
 abbrev pub lived : List ℕ → List Call → World
 lived ring cs = live (born ring) cs
 
+-- the job held, by its ordinal; none in Idle
+abbrev pub holder : World → Option ℕ
+holder w = cond (idle (scanOf (w .now))) none (some (ordinal (w .past)))
+
 -- the outcomes that the watcher saw, oldest first, before others
 abbrev pub told : List Event → List Outcome → List Outcome
 told [] os = os
@@ -193,7 +235,3 @@ told (e ∷ es) os = told es (e .outcome ∷ os)
 -- the second at which the job held ends: its granted time (300 in a fault)
 abbrev pub dueSecond : World → ℕ
 dueSecond w = cond (erred (scanOf (w .now))) faultTime (timeAnswered (w .past))
-
--- the bytes that a fetch with this outcome yields, each with the job that it was accepted for
-abbrev pub got : World → Outcome → List Tagged
-got w o = take (countIn (o .values)) (waiting (w .past))
