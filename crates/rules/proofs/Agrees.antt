@@ -1,20 +1,25 @@
--- The definitions agree with the paper's cases, all of them as one table. It stands first: a wrong definition is named here.
-use Prim.Native.String.{String}
-use mathlib.Core.Path.{_≡_, refl, _∙_, ap}
-use mathlib.Core.Bool.{Bool, true, false, cond}
-use mathlib.Core.List.{List, [], _∷_, _++_}
-use Rattle.rules.specs.Table.{Case, failing, table, starred-hold, edges-hold, slips-hold, refusing-hold, every604-hold, readings-hold, judgedJobs-hold}
-use Rattle.rules.specs.Table.{judgedRings-hold, judgedFeeders-hold}
+-- The definitions agree with the paper's cases. A case holds its own proof, so this is the same for every list of them. It stands
+-- first, with all the files of cases: a wrong definition is told at the line of a case before any proof.
+use mathlib.Core.List.{List, [], _∷_}
+use Rattle.rules.specs.Promises.{All}
+use Rattle.rules.specs.Cases.{Case, Right}
+use Rattle.rules.specs.Table.{table}
+use Rattle.rules.specs.Judged.{soundness}
+use Rattle.rules.specs.Watched.{lives}
+use Rattle.rules.specs.Worded.{borne}
 
-push : (t : Bool) (x : String) (a b : List String) → cond t (a ++ b) (x ∷ a ++ b) ≡ cond t a (x ∷ a) ++ b
-push true x a b = refl
-push false x a b = refl
+pub all-right : {A : Type 0} (cs : List (Case A)) → All Right cs
+all-right [] = tt
+all-right (c ∷ cs) = (c .holds, all-right cs)
 
-failing-append : (a b : List Case) → failing (a ++ b) ≡ failing a ++ failing b
-unfolding failing
-failing-append [] b = refl
-failing-append (c ∷ a) b =
-    ap (λ (l : List String). cond (c .right) l (c .says ∷ l)) (failing-append a b) ∙ push (c .right) (c .says) (failing a) (failing b)
+pub table-holds : All Right table
+table-holds = all-right table
 
-pub table-holds : failing table ≡ []
-table-holds = simp (failing-append, starred-hold, edges-hold, slips-hold, refusing-hold, every604-hold, judgedJobs-hold, judgedRings-hold, judgedFeeders-hold, readings-hold)
+pub soundness-holds : All Right soundness
+soundness-holds = all-right soundness
+
+pub lives-hold : All Right lives
+lives-hold = all-right lives
+
+pub borne-hold : All Right borne
+borne-hold = all-right borne

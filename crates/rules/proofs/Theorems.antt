@@ -17,7 +17,8 @@ use Rattle.rules.specs.Calls.{StartScan, Fetch, Call, scan, n604, named,
 use Rattle.rules.specs.Machine.{listed, sidesListed, same, runBy, lines, step, Ran, run, start, refusals}
 use Rattle.rules.specs.Watch.{wasAccepted, sign, scanOf, Tagged, World, after, live, born, lived, holder, told}
 use Rattle.rules.specs.Promises.{reasons, below, bears, All, Ringed, First, OneOf, Refusal, Sides, Ends, OnTime, Fate, Silent, NotPutOff, OfAnother, Yields}
-use Rattle.rules.specs.Table.{failing, table}
+use Rattle.rules.specs.Cases.{Case, Right}
+use Rattle.rules.specs.Table.{table}
 use Rattle.rules.proofs.Agrees as agrees
 use Rattle.rules.proofs.Choice.{choice}
 use Rattle.rules.proofs.Sound.{to-sound, from-sound}
@@ -155,8 +156,8 @@ bearing-refused s c j = answers.bearing-refused s c j
 pub same-is : (xs ys : List ℕ) → (same xs ys ≡ true) ↔ (xs ≡ ys)
 same-is xs ys = others.same-is xs ys
 
-pub names-differ : (r x : Record) → r .job .held ≤ greatest → x .job .held ≤ greatest → r .job .held ≢ x .job .held → name r ≢ name x
-names-differ r x l m d = others.names-differ r x (omega (arith, l)) (omega (arith, m)) d
+pub names-differ : (r x : Record) → r .job .held < 10000000000 → x .job .held < 10000000000 → r .job .held ≢ x .job .held → name r ≢ name x
+names-differ = others.names-differ
 
 -- while a job is held a fetch by another job's name is 404
 pub other-name-404 : (ring : List ℕ) → Ringed ring → (cs : List Call) (j : ℕ) → holder (lived ring cs) ≡ some j
@@ -214,8 +215,12 @@ settled-list box right (c ∷ cs) s =
     ap₂ (λ (o : Outcome) (rest : Ran). record { outcomes = o ∷ rest .outcomes; end = rest .end }) (right s c)
     (ap (λ (o : Outcome). runBy box (o .state) cs) (right s c) ∙ settled-list box right cs (step s c .state))
 
--- ---- 9. The paper's cases, as one table
-pub table-holds : failing table ≡ []
+-- ---- 9. The paper's cases. Each holds its own proof, so every list of them is right: those of the calls as one table, those of
+-- soundness (Judged), of the watcher (Watched) and of the promises' words (Worded)
+pub cases-hold : {A : Type 0} (cs : List (Case A)) → All Right cs
+cases-hold cs = agrees.all-right cs
+
+pub table-holds : All Right table
 table-holds = agrees.table-holds
 
 -- ---- 0 is never given

@@ -7,4 +7,8 @@ pub mod Calls
 pub mod Machine
 pub mod Watch
 pub mod Promises
+pub mod Cases
 pub mod Table
+pub mod Judged
+pub mod Watched
+pub mod Worded

@@ -1,503 +1,1049 @@
--- The paper's cases as one computed table, and its worked example. A case that fails is named by the check.
+-- The paper's cases: after which calls, which call, and its whole outcome. A definition that is wrong fails at the line of a case.
 use Prim.Native.Nat.{ℕ}
-use Prim.Native.String.{String}
 use mathlib.Core.Path.{_≡_, refl}
-use mathlib.Core.Bool.{Bool, true, false, cond}
+use mathlib.Core.Bool.{true, false}
 use mathlib.Core.List.{List, [], _∷_, _++_, map}
 use lib.ListN.{replicate}
 use Rattle.rules.specs.declared.Scan.{Scan}
 use Rattle.rules.specs.declared.Scan.the-variants.{Idle, Pending, Scanning, Finishing, Erred}
 use Rattle.rules.specs.declared.Feed.{Feed}
 use Rattle.rules.specs.declared.Feed.the-variants.{Unloaded, Loaded, Busy, Erred as Stuck}
-use Rattle.rules.specs.declared.Failure.{Failure}
 use Rattle.rules.specs.declared.Failure.the-variants.{None, Jammed, Timeout}
+use Rattle.rules.specs.declared.Feeder.{Feeder}
 use Rattle.rules.specs.declared.Record.{Record}
-use Rattle.rules.specs.Record.{exactly, greatest, endless, fresh, sound}
-use Rattle.rules.specs.Moves.{withSettings, withFeeder, withRing, stopAt, withJob, withSide, quietAt, begun, released, given, readied, started, stopped}
-use Rattle.rules.specs.Moves.{name, drained, moved, fetched, filled, finished, sideEnded, pathed, ticked}
+use Rattle.rules.specs.Feeder.{stands, fails, trayAt, pathAt}
+use Rattle.rules.specs.Moves.{withScanner, withJob, withSide, withSettings, withFeeder, withRing, standing, quietAt, stopAt, countAt, emptied, heard}
+use Rattle.rules.specs.Moves.{announced, begun, released, ended, timedOut, given, readied, started, stopped, numbered, faulted, waited, moved, filled}
+use Rattle.rules.specs.Moves.{finished, caught, pathed, ticked}
 use Rattle.rules.specs.Calls.{StartScan, Start, Stop, Abort, GetDestination, Fetch, GetState, GetSideInformation, Load, Eject, Reset, SetFeederMode}
-use Rattle.rules.specs.Calls.{GetFeederState, GetFeederMode, Bytes, SideEnded, Tray, Path, Tick, Call, scan, feeder, report, State, Values, nothing}
-use Rattle.rules.specs.Calls.{time, destination, picture, state, sides, feeding, mode, stored, Outcome, answer}
-use Rattle.rules.specs.Machine.{runBy, same, scanRefusals, feederRefusals, reportRefusals, refusals, scanEffect, feederEffect, reportEffect, effect}
-use Rattle.rules.specs.Machine.{step, run, start}
-
--- ---- a case: what it says, and whether the definitions agree
-pub record Case : Type 0 where
-  pub says : String
-  pub right : Bool
-
-unfoldable pub failing : List Case → List String
-failing [] = []
-failing (c ∷ cs) = cond (c .right) (failing cs) (c .says ∷ failing cs)
-
--- the outcome of a call after others
-unfoldable pub final : State → List Call → Call → Outcome
-unfolding runBy step answer scanRefusals feederRefusals reportRefusals refusals scanEffect feederEffect reportEffect effect sound begun
-    released given readied started stopped name drained moved fetched filled finished sideEnded pathed ticked
-final s cs c = step (run s cs .end) c
-
-abbrev pub scanCode : Scan → ℕ
-scanCode Idle = 0
-scanCode Pending = 1
-scanCode Scanning = 2
-scanCode Finishing = 3
-scanCode Erred = 4
-
-abbrev pub feedCode : Feed → ℕ
-feedCode Unloaded = 0
-feedCode Loaded = 1
-feedCode Busy = 2
-feedCode Stuck = 3
-
-abbrev pub failureCode : Failure → ℕ
-failureCode None = 0
-failureCode Jammed = 1
-failureCode Timeout = 2
-
-abbrev pub shown : Values → List ℕ
-shown nothing = []
-shown (time t) = t ∷ []
-shown (destination n i) = n ++ i ∷ []
-shown (picture k true bs) = k ∷ 1 ∷ bs
-shown (picture k false bs) = k ∷ 0 ∷ bs
-shown (state s f) = scanCode s ∷ failureCode f ∷ []
-shown (sides n c l) = n ∷ c ∷ l ∷ []
-shown (feeding f t x) = feedCode f ∷ t ∷ failureCode x ∷ []
-shown (mode m) = m ∷ []
-shown (stored k) = k ∷ []
-
--- what the desk shows of an outcome: number, scan state, feeder state, job, SideNumber, SideCount, extra
-abbrev pub line : ℕ → Scan → Feed → ℕ → ℕ → ℕ → List ℕ → List ℕ
-line n s f job side count extra = n ∷ scanCode s ∷ feedCode f ∷ job ∷ side ∷ count ∷ extra
-
-abbrev pub lineOf : Outcome → List ℕ
-lineOf o =
-    let r = o .state .box in
-    line (o .number) (r .scanner .state) (r .feeder .state) (r .job .held) (r .side .number) (r .side .count) (shown (o .values))
-
-abbrev pub case : String → State → List Call → Call → List ℕ → Case
-case says s cs c l = record { says = says; right = same (lineOf (final s cs c)) l }
-
--- what it does not show: quiet, stop asked, DestinationID, the scanner's and the feeder's FailureCode, MorePages, path, start, stored
-abbrev pub inside : ℕ → ℕ → ℕ → Failure → Failure → ℕ → ℕ → ℕ → ℕ → List ℕ
-inside quiet asked id scanFailure feedFailure tray path from count =
-    quiet ∷ asked ∷ id ∷ failureCode scanFailure ∷ failureCode feedFailure ∷ tray ∷ path ∷ from ∷ count ∷ []
-
-abbrev pub insideOf : Outcome → List ℕ
-insideOf o =
-    let r = o .state .box in
-    inside (r .job .quiet) (r .job .stop) (r .side .destination) (r .scanner .failure) (r .feeder .failure) (r .feeder .tray) (r .feeder .path)
-    (r .ring .start) (r .ring .stored)
-
-abbrev pub within : String → State → List Call → Call → List ℕ → Case
-within says s cs c l = record { says = says; right = same (insideOf (final s cs c)) l }
-
--- the ring and the reply at exit
-abbrev pub ringed : String → State → List Call → Call → List ℕ → Case
-ringed says s cs c l = record { says = says; right = same (final s cs c .state .bytes) l }
-
-abbrev pub replied : String → State → List Call → Call → List ℕ → Case
-replied says s cs c l = record { says = says; right = same (final s cs c .reply) l }
-
--- ---- where cases start
--- a fresh box with a ring of 4 bytes; the same with parts changed
-abbrev pub box : State
-box = start (0 ∷ 0 ∷ 0 ∷ 0 ∷ [])
-
-abbrev pub boxed : Record → State
-boxed r = record { box = r; bytes = 0 ∷ 0 ∷ 0 ∷ 0 ∷ [] }
-
-abbrev pub lastNumber : State
-lastNumber = boxed (withJob (record { held = 0; last = greatest; granted = fresh .job .granted; quiet = 0; stop = 0 }) fresh)
-
-abbrev pub lastDestination : State
-lastDestination = boxed (withSide (record { number = 1; count = 0; destination = greatest }) fresh)
-
--- job 1 on the glass, at side 999
-abbrev pub side999 : State
-side999 =
-    boxed
-    (withSide (record { number = 999; count = 1; destination = 7 })
-    (run box (scan (StartScan 0 1 1 0) ∷ []) .end .box))
-
--- not sound: Idle with quiet 1
-abbrev pub unsound : State
-unsound = boxed (quietAt 1 fresh)
-
-abbrev pub name1 : List ℕ
-name1 = 74 ∷ 48 ∷ 48 ∷ 48 ∷ 48 ∷ 48 ∷ 48 ∷ 48 ∷ 48 ∷ 48 ∷ 49 ∷ 48 ∷ 48 ∷ 49 ∷ 46 ∷ 106 ∷ 112 ∷ 103 ∷ []
-
-abbrev pub reply : List ℕ
-reply = replicate 8 0
-
-abbrev pub fetch : Call
-fetch = scan (Fetch name1 8 reply)
-
-abbrev pub ticks : ℕ → List Call
-ticks n = replicate n (report Tick)
-
--- a job on the glass, Pending; Scanning on the glass; Scanning from the feeder, with so many sides; with bytes in
-abbrev pub holding : List Call
-holding = scan (StartScan 0 0 1 10) ∷ []
-
-abbrev pub glass : List Call
-glass = scan (StartScan 0 1 1 10) ∷ []
-
-abbrev pub feedingOf : ℕ → List Call
-feedingOf c = report (Tray 1) ∷ scan (StartScan 1 c 1 10) ∷ []
-
-abbrev pub filling : List Call
-filling = feedingOf 1 ++ report (Bytes (65 ∷ 66 ∷ 67 ∷ [])) ∷ []
-
-abbrev pub jamming : List Call
-jamming = feedingOf 1 ++ report (Path 1) ∷ []
-
--- the job in Erred, so many seconds quiet
-abbrev pub erredFor : ℕ → State
-erredFor q = boxed (quietAt q (run box jamming .end .box))
+use Rattle.rules.specs.Calls.{GetFeederState, GetFeederMode, Bytes, SideEnded, Tray, Path, Tick, scan, feeder, report, nothing, time, destination}
+use Rattle.rules.specs.Calls.{picture, state, sides, feeding, mode, stored, Outcome, Reason, n604, n601, n712, n404, n501, n711, n713, n603, numberOf}
+use Rattle.rules.specs.Calls.{rowOf, named, Line, refuse, leaving}
+use Rattle.rules.specs.Machine.{run, start, lines}
+use Rattle.rules.specs.Cases.{Case, that, final, after, case, keeps, ticks, at, boxed, resting, holding, drawing, drawingLast, copying, draining}
+use Rattle.rules.specs.Cases.{clearing, faulty, unsound, out, done, told, sent, took, box, scanner, job, side, settings, feed, ring, minusOne}
+use Rattle.rules.specs.Cases.{minusTwo, five, nine, J41, J41-006, J41-007, J42, J42-001, J0-001, J1234567890, J1234567890-987, J4294967295-999}
+use Rattle.rules.specs.Cases.{J1-001, J1-002, J2, Turn, turn, callOf, outcomeOf}
 
 -- ---- both sides of each line: the cases marked *
-abbrev pub starred : List Case
+pub starred : List (Case Outcome)
+unfolding final
 starred =
-    case "asked 4: granted 5" box [] (scan (StartScan 0 0 1 4)) (line 0 Pending Unloaded 1 1 0 (5 ∷ []))
-    ∷ case "asked 5: granted 5" box [] (scan (StartScan 0 0 1 5)) (line 0 Pending Unloaded 1 1 0 (5 ∷ []))
-    ∷ case "asked 600: granted 600" box [] (scan (StartScan 0 0 1 600)) (line 0 Pending Unloaded 1 1 0 (600 ∷ []))
-    ∷ case "asked 601: granted 600" box [] (scan (StartScan 0 0 1 601)) (line 0 Pending Unloaded 1 1 0 (600 ∷ []))
-    ∷ case "asked 0: granted 60" box [] (scan (StartScan 0 0 1 0)) (line 0 Pending Unloaded 1 1 0 (60 ∷ []))
-    ∷ case "SideCount 999 taken" box (report (Tray 1) ∷ []) (scan (StartScan 1 999 1 0)) (line 0 Scanning Busy 1 1 999 (60 ∷ []))
-    ∷ case "SideCount 1000 is 601" box (report (Tray 1) ∷ []) (scan (StartScan 1 1000 1 0)) (line 601 Idle Unloaded 0 1 0 [])
-    ∷ case "SideCount −2 is 601" box (report (Tray 1) ∷ []) (scan (StartScan 1 4294967294 1 0)) (line 601 Idle Unloaded 0 1 0 [])
-    ∷ case "glass 2 is 601" box [] (scan (StartScan 0 2 1 0)) (line 601 Idle Unloaded 0 1 0 [])
-    ∷ case "granted 10, Pending: nine ticks hold it" box (holding ++ ticks 8) (report Tick) (line 0 Pending Unloaded 1 1 0 [])
-    ∷ case "the tenth ends it" box (holding ++ ticks 9) (report Tick) (line 0 Idle Unloaded 0 1 0 [])
-    ∷ case "an empty fetch after the ninth" box (holding ++ ticks 9) fetch (line 0 Pending Unloaded 1 1 0 (0 ∷ 0 ∷ []))
-    ∷ case "puts off nothing" box (holding ++ ticks 9 ++ fetch ∷ []) (report Tick) (line 0 Idle Unloaded 0 1 0 [])
-    ∷ case "Load from Loaded, tray empty: 713, Unloaded" box (report (Tray 1) ∷ feeder (Load 0) ∷ report (Tray 0) ∷ []) (feeder (Load 0))
-    (line 713 Idle Unloaded 0 1 0 [])
-    ∷ case "Reset, path 1: accepted, Erred" box (report (Path 1) ∷ []) (feeder (Reset 0)) (line 0 Idle Stuck 0 1 0 [])
-    ∷ case "job 0 to Load while held: 712" box holding (feeder (Load 0)) (line 712 Pending Unloaded 1 1 0 [])
-    ∷ case "SideNumber 999 goes to 0" side999 [] (report SideEnded) (line 0 Pending Unloaded 1 0 0 [])
-    ∷ case "job 4,294,967,295 is followed by 1" lastNumber [] (scan (StartScan 0 0 1 0)) (line 0 Pending Unloaded 1 1 0 (60 ∷ []))
+    case "asked 4: granted 5" (resting (settings 1 0) (feed Loaded Jammed 1 0)) (scan (StartScan 0 0 1 4))
+    (told (time 5) (box (scanner Pending None) (job 42 42 5 0 0) (side 1 0 90) (settings 0 1) (feed Loaded Jammed 1 0) (ring 3 0))) refl
+    ∷ case "asked 5: granted 5" (resting (settings 1 0) (feed Loaded Jammed 1 0)) (scan (StartScan 0 0 1 5))
+    (told (time 5) (box (scanner Pending None) (job 42 42 5 0 0) (side 1 0 90) (settings 0 1) (feed Loaded Jammed 1 0) (ring 3 0))) refl
+    ∷ case "asked 600: granted 600" (resting (settings 1 0) (feed Loaded Jammed 1 0)) (scan (StartScan 0 0 1 600))
+    (told (time 600) (box (scanner Pending None) (job 42 42 600 0 0) (side 1 0 90) (settings 0 1) (feed Loaded Jammed 1 0) (ring 3 0))) refl
+    ∷ case "asked 601: granted 600" (resting (settings 1 0) (feed Loaded Jammed 1 0)) (scan (StartScan 0 0 1 601))
+    (told (time 600) (box (scanner Pending None) (job 42 42 600 0 0) (side 1 0 90) (settings 0 1) (feed Loaded Jammed 1 0) (ring 3 0))) refl
+    ∷ case "asked 0: granted 60" (resting (settings 1 0) (feed Loaded Jammed 1 0)) (scan (StartScan 0 0 1 0))
+    (told (time 60) (box (scanner Pending None) (job 42 42 60 0 0) (side 1 0 90) (settings 0 1) (feed Loaded Jammed 1 0) (ring 3 0))) refl
+    ∷ case "SideCount 999 taken" (resting (settings 1 0) (feed Loaded Jammed 1 0)) (scan (StartScan 1 999 1 123))
+    (told (time 123) (box (scanner Scanning None) (job 42 42 123 0 0) (side 1 999 91) (settings 1 1) (feed Busy Jammed 1 0) (ring 3 0))) refl
+    ∷ keeps "SideCount 1000 is 601" (resting (settings 1 0) (feed Loaded Jammed 1 0)) (scan (StartScan 1 1000 1 123)) 601 refl
+    ∷ keeps "SideCount −2 is 601" (resting (settings 1 0) (feed Loaded Jammed 1 0)) (scan (StartScan 1 minusTwo 1 123)) 601 refl
+    ∷ keeps "glass 2 is 601" (resting (settings 1 0) (feed Loaded Jammed 1 0)) (scan (StartScan 0 2 1 123)) 601 refl
+    ∷ after "granted 10, Pending: nine ticks hold it" (resting (settings 1 0) (feed Loaded Jammed 1 0)) (scan (StartScan 0 0 1 10) ∷ ticks 8) (report Tick)
+    (done (box (scanner Pending None) (job 42 42 10 9 0) (side 1 0 90) (settings 0 1) (feed Loaded Jammed 1 0) (ring 3 0))) refl
+    ∷ after "the tenth ends it" (resting (settings 1 0) (feed Loaded Jammed 1 0)) (scan (StartScan 0 0 1 10) ∷ ticks 9) (report Tick)
+    (done (box (scanner Idle Timeout) (job 0 42 10 0 0) (side 1 0 90) (settings 0 1) (feed Loaded Jammed 1 0) (ring 0 0))) refl
+    ∷ after "an empty fetch after the ninth" (resting (settings 1 0) (feed Loaded Jammed 1 0)) (scan (StartScan 0 0 1 10) ∷ ticks 9)
+    (scan (Fetch J42-001 255 nine))
+    (sent 0 false [] (65 ∷ 66 ∷ 67 ∷ 68 ∷ 69 ∷ [])
+    (box (scanner Pending None) (job 42 42 10 9 0) (side 1 0 90) (settings 0 1) (feed Loaded Jammed 1 0) (ring 3 0))) refl
+    ∷ after "puts off nothing" (resting (settings 1 0) (feed Loaded Jammed 1 0)) (scan (StartScan 0 0 1 10) ∷ ticks 9 ++ scan (Fetch J42-001 255 nine) ∷ [])
+    (report Tick)
+    (done (box (scanner Idle Timeout) (job 0 42 10 0 0) (side 1 0 90) (settings 0 1) (feed Loaded Jammed 1 0) (ring 0 0))) refl
+    ∷ case "Load from Loaded, tray empty: 713, Unloaded" (resting (settings 1 0) (feed Loaded Jammed 0 0)) (feeder (Load 0))
+    (out 713 nothing (box (scanner Idle Timeout) (job 0 41 77 0 0) (side 1 0 90) (settings 1 0) (feed Unloaded Jammed 0 0) (ring 3 0)) five []) refl
+    ∷ case "Reset, path 1: accepted, Erred" (resting (settings 1 0) (feed Stuck Jammed 1 1)) (feeder (Reset 0))
+    (done (box (scanner Idle Timeout) (job 0 41 77 0 0) (side 1 0 90) (settings 1 0) (feed Stuck Jammed 1 1) (ring 3 0))) refl
+    ∷ keeps "job 0 to Load while held: 712" (holding (settings 1 0) (feed Loaded Jammed 1 0)) (feeder (Load 0)) 712 refl
+    ∷ case "SideNumber 999 goes to 0"
+    (at (box (scanner Scanning Timeout) (job 41 41 77 13 0) (side 999 1 90) (settings 0 1) (feed Loaded Jammed 1 0) (ring 3 0))) (report SideEnded)
+    (done (box (scanner Pending Timeout) (job 41 41 77 0 0) (side 0 0 90) (settings 0 1) (feed Loaded Jammed 1 0) (ring 3 0))) refl
+    ∷ case "job 4,294,967,295 is followed by 1"
+    (at (box (scanner Idle Timeout) (job 0 4294967295 77 0 0) (side 1 0 90) (settings 1 0) (feed Loaded Jammed 1 0) (ring 3 0))) (scan (StartScan 0 0 1 123))
+    (told (time 123) (box (scanner Pending None) (job 1 1 123 0 0) (side 1 0 90) (settings 0 1) (feed Loaded Jammed 1 0) (ring 3 0))) refl
     ∷ []
 
--- ---- DestinationID rises by one, 4,294,967,295 going to 0; other edges
-abbrev pub edges : List Case
-edges =
-    within "DestinationID rises as a side begins" box [] (scan (StartScan 0 1 1 0)) (inside 0 0 1 None None 0 0 0 0)
-    ∷ within "DestinationID stays where none begins" box [] (scan (StartScan 0 0 1 0)) (inside 0 0 0 None None 0 0 0 0)
-    ∷ within "DestinationID 4,294,967,295 goes to 0" lastDestination [] (scan (StartScan 0 1 1 0)) (inside 0 0 0 None None 0 0 0 0)
-    ∷ case "−1 on the glass is stored as 1" box [] (scan (StartScan 0 endless 1 0)) (line 0 Scanning Unloaded 1 1 1 (60 ∷ []))
-    ∷ case "in Erred 299 quiet seconds hold the job" (erredFor 298) [] (report Tick) (line 0 Erred Stuck 1 1 1 [])
-    ∷ case "in Erred the 300th ends it" (erredFor 299) [] (report Tick) (line 0 Idle Stuck 0 1 0 [])
-    ∷ within "a job that ends by time: Timeout, a Busy feeder too" box (filling ++ ticks 9) (report Tick) (inside 0 0 1 Timeout Timeout 1 0 0 0)
-    ∷ case "and the feeder Erred" box (filling ++ ticks 9) (report Tick) (line 0 Idle Stuck 0 1 0 [])
-    ∷ within "Start: FailureCode none" box (jamming ++ report (Path 0) ∷ []) (scan (Start 1 0 0)) (inside 0 0 1 None Jammed 1 0 0 0)
-    ∷ ringed "bytes go in behind the stored ones, round the ring's end" box (filling ++ fetch ∷ []) (report (Bytes (68 ∷ 69 ∷ []))) (69 ∷ 66 ∷ 67 ∷ 68 ∷ [])
-    ∷ case "oldest byte out first" box (filling ++ scan (Fetch name1 2 reply) ∷ report (Bytes (68 ∷ 69 ∷ [])) ∷ []) fetch
-    (line 0 Scanning Busy 1 1 1 (3 ∷ 0 ∷ 67 ∷ 68 ∷ 69 ∷ []))
-    ∷ replied "head A5 5A 06 k, the bytes, later bytes stay" box filling (scan (Fetch name1 2 (1 ∷ 2 ∷ 3 ∷ 4 ∷ 5 ∷ 6 ∷ 7 ∷ 8 ∷ [])))
-    (0xA5 ∷ 0x5A ∷ 0x06 ∷ 2 ∷ 65 ∷ 66 ∷ 7 ∷ 8 ∷ [])
-    ∷ replied "a refused fetch writes nothing" box [] (scan (Fetch name1 2 (1 ∷ 2 ∷ 3 ∷ 4 ∷ 5 ∷ []))) (1 ∷ 2 ∷ 3 ∷ 4 ∷ 5 ∷ [])
-    ∷ case "k by the reply's length" box filling (scan (Fetch name1 8 (0 ∷ 0 ∷ 0 ∷ 0 ∷ 0 ∷ []))) (line 0 Scanning Busy 1 1 1 (1 ∷ 0 ∷ 65 ∷ []))
-    ∷ case "last, then the drain step" box (filling ++ report SideEnded ∷ []) fetch (line 0 Pending Unloaded 1 2 0 (3 ∷ 1 ∷ 65 ∷ 66 ∷ 67 ∷ []))
-    ∷ case "not last while bytes stay" box (filling ++ report SideEnded ∷ []) (scan (Fetch name1 2 reply))
-    (line 0 Finishing Unloaded 1 1 0 (2 ∷ 0 ∷ 65 ∷ 66 ∷ []))
-    ∷ case "a stop asked ends the job in the drain step" box (filling ++ scan (Stop 1) ∷ report SideEnded ∷ []) fetch
-    (line 0 Idle Unloaded 0 1 0 (3 ∷ 1 ∷ 65 ∷ 66 ∷ 67 ∷ []))
-    ∷ case "the name without Append" box (scan (StartScan 0 0 0 0) ∷ []) (scan (GetDestination 1))
-    (line 0 Pending Unloaded 1 1 0 (74 ∷ 48 ∷ 48 ∷ 48 ∷ 48 ∷ 48 ∷ 48 ∷ 48 ∷ 48 ∷ 48 ∷ 49 ∷ 46 ∷ 106 ∷ 112 ∷ 103 ∷ 0 ∷ []))
-    ∷ case "GetState" box jamming (scan GetState) (line 0 Erred Stuck 1 1 1 (4 ∷ 1 ∷ []))
-    ∷ case "GetSideInformation" box jamming (scan GetSideInformation) (line 0 Erred Stuck 1 1 1 (1 ∷ 1 ∷ 0 ∷ []))
-    ∷ case "feeder GetState" box jamming (feeder GetFeederState) (line 0 Erred Stuck 1 1 1 (3 ∷ 1 ∷ 1 ∷ []))
-    ∷ case "GetFeederMode" box [] (feeder GetFeederMode) (line 0 Idle Unloaded 0 1 0 (0 ∷ []))
-    ∷ within "Eject 0 keeps MorePages" box (report (Tray 1) ∷ []) (feeder (Eject 0 0)) (inside 0 0 0 None None 1 0 0 0)
-    ∷ within "Eject 2 is Eject 1" box (report (Tray 1) ∷ []) (feeder (Eject 0 2)) (inside 0 0 0 None None 0 0 0 0)
-    ∷ within "Reset, path 0: none" box (report (Path 1) ∷ report (Path 0) ∷ []) (feeder (Reset 0)) (inside 0 0 0 None None 0 0 0 0)
+-- ---- StartScan: settings stored, job is the last number plus 1, FailureCode none; the feeder's FailureCode, the sensors and the ring stay
+pub startScans : List (Case Outcome)
+unfolding final
+startScans =
+    case "from the feeder: Loaded becomes Busy, Scanning, DestinationID rises" (resting (settings 1 0) (feed Loaded Jammed 1 0)) (scan (StartScan 1 7 1 123))
+    (told (time 123) (box (scanner Scanning None) (job 42 42 123 0 0) (side 1 7 91) (settings 1 1) (feed Busy Jammed 1 0) (ring 3 0))) refl
+    ∷ case "from the feeder: Unloaded with a sheet becomes Busy" (resting (settings 0 1) (feed Unloaded Jammed 1 0)) (scan (StartScan 1 2 0 123))
+    (told (time 123) (box (scanner Scanning None) (job 42 42 123 0 0) (side 1 2 91) (settings 1 0) (feed Busy Jammed 1 0) (ring 3 0))) refl
+    ∷ case "from the feeder: Loaded with an empty tray becomes Busy" (resting (settings 0 0) (feed Loaded None 0 0)) (scan (StartScan 1 1 1 123))
+    (told (time 123) (box (scanner Scanning None) (job 42 42 123 0 0) (side 1 1 91) (settings 1 1) (feed Busy None 0 0) (ring 3 0))) refl
+    ∷ case "on the glass: the feeder stays Loaded" (resting (settings 1 1) (feed Loaded Jammed 1 0)) (scan (StartScan 0 1 0 123))
+    (told (time 123) (box (scanner Scanning None) (job 42 42 123 0 0) (side 1 1 91) (settings 0 0) (feed Loaded Jammed 1 0) (ring 3 0))) refl
+    ∷ case "on the glass: the feeder stays Unloaded, with an empty tray too" (resting (settings 1 1) (feed Unloaded Jammed 0 0)) (scan (StartScan 0 1 0 123))
+    (told (time 123) (box (scanner Scanning None) (job 42 42 123 0 0) (side 1 1 91) (settings 0 0) (feed Unloaded Jammed 0 0) (ring 3 0))) refl
+    ∷ case "on the glass: the feeder stays Erred" (resting (settings 1 0) (feed Stuck Jammed 0 1)) (scan (StartScan 0 1 1 123))
+    (told (time 123) (box (scanner Scanning None) (job 42 42 123 0 0) (side 1 1 91) (settings 0 1) (feed Stuck Jammed 0 1) (ring 3 0))) refl
+    ∷ case "device-setting keeps UseFeeder 1 and Append 0" (resting (settings 1 0) (feed Loaded Jammed 1 0)) (scan (StartScan 2 7 2 123))
+    (told (time 123) (box (scanner Scanning None) (job 42 42 123 0 0) (side 1 7 91) (settings 1 0) (feed Busy Jammed 1 0) (ring 3 0))) refl
+    ∷ case "device-setting keeps UseFeeder 0 and Append 1" (resting (settings 0 1) (feed Loaded Jammed 1 0)) (scan (StartScan 2 1 2 123))
+    (told (time 123) (box (scanner Scanning None) (job 42 42 123 0 0) (side 1 1 91) (settings 0 1) (feed Loaded Jammed 1 0) (ring 3 0))) refl
+    ∷ case "−1 from the feeder stays −1" (resting (settings 0 1) (feed Loaded Jammed 1 0)) (scan (StartScan 1 minusOne 0 123))
+    (told (time 123) (box (scanner Scanning None) (job 42 42 123 0 0) (side 1 minusOne 91) (settings 1 0) (feed Busy Jammed 1 0) (ring 3 0))) refl
+    ∷ case "−1 on the glass is stored as 1" (resting (settings 1 1) (feed Loaded Jammed 1 0)) (scan (StartScan 0 minusOne 0 123))
+    (told (time 123) (box (scanner Scanning None) (job 42 42 123 0 0) (side 1 1 91) (settings 0 0) (feed Loaded Jammed 1 0) (ring 3 0))) refl
+    ∷ case "SideCount 0 from the feeder: Pending, DestinationID stays" (resting (settings 0 1) (feed Loaded Jammed 1 0)) (scan (StartScan 1 0 0 123))
+    (told (time 123) (box (scanner Pending None) (job 42 42 123 0 0) (side 1 0 90) (settings 1 0) (feed Loaded Jammed 1 0) (ring 3 0))) refl
+    ∷ case "SideCount 0 from an Erred feeder: Pending" (resting (settings 0 0) (feed Stuck Jammed 0 1)) (scan (StartScan 1 0 1 123))
+    (told (time 123) (box (scanner Pending None) (job 42 42 123 0 0) (side 1 0 90) (settings 1 1) (feed Stuck Jammed 0 1) (ring 3 0))) refl
+    ∷ case "SideCount 0 from the feeder, no sheet: Pending" (resting (settings 0 0) (feed Unloaded Jammed 0 0)) (scan (StartScan 1 0 1 123))
+    (told (time 123) (box (scanner Pending None) (job 42 42 123 0 0) (side 1 0 90) (settings 1 1) (feed Unloaded Jammed 0 0) (ring 3 0))) refl
+    ∷ case "SideCount 0 on the glass: Pending" (resting (settings 1 1) (feed Stuck Jammed 1 0)) (scan (StartScan 0 0 0 123))
+    (told (time 123) (box (scanner Pending None) (job 42 42 123 0 0) (side 1 0 90) (settings 0 0) (feed Stuck Jammed 1 0) (ring 3 0))) refl
+    ∷ case "asked 1: granted 5" (resting (settings 1 0) (feed Loaded Jammed 1 0)) (scan (StartScan 0 0 1 1))
+    (told (time 5) (box (scanner Pending None) (job 42 42 5 0 0) (side 1 0 90) (settings 0 1) (feed Loaded Jammed 1 0) (ring 3 0))) refl
+    ∷ case "asked 6: granted 6" (resting (settings 1 0) (feed Loaded Jammed 1 0)) (scan (StartScan 0 0 1 6))
+    (told (time 6) (box (scanner Pending None) (job 42 42 6 0 0) (side 1 0 90) (settings 0 1) (feed Loaded Jammed 1 0) (ring 3 0))) refl
+    ∷ case "asked 599: granted 599" (resting (settings 1 0) (feed Loaded Jammed 1 0)) (scan (StartScan 0 0 1 599))
+    (told (time 599) (box (scanner Pending None) (job 42 42 599 0 0) (side 1 0 90) (settings 0 1) (feed Loaded Jammed 1 0) (ring 3 0))) refl
+    ∷ case "asked 65,535: granted 600" (resting (settings 1 0) (feed Loaded Jammed 1 0)) (scan (StartScan 0 0 1 65535))
+    (told (time 600) (box (scanner Pending None) (job 42 42 600 0 0) (side 1 0 90) (settings 0 1) (feed Loaded Jammed 1 0) (ring 3 0))) refl
+    ∷ case "DestinationID 4,294,967,295 goes to 0"
+    (at (box (scanner Idle Timeout) (job 0 41 77 0 0) (side 1 0 4294967295) (settings 1 0) (feed Loaded Jammed 1 0) (ring 3 0))) (scan (StartScan 1 7 1 123))
+    (told (time 123) (box (scanner Scanning None) (job 42 42 123 0 0) (side 1 7 0) (settings 1 1) (feed Busy Jammed 1 0) (ring 3 0))) refl
+    ∷ case "DestinationID 4,294,967,294 goes to 4,294,967,295"
+    (at (box (scanner Idle Timeout) (job 0 41 77 0 0) (side 1 0 4294967294) (settings 1 0) (feed Loaded Jammed 1 0) (ring 3 0))) (scan (StartScan 1 7 1 123))
+    (told (time 123) (box (scanner Scanning None) (job 42 42 123 0 0) (side 1 7 4294967295) (settings 1 1) (feed Busy Jammed 1 0) (ring 3 0))) refl
+    ∷ case "job 4,294,967,294 is followed by 4,294,967,295"
+    (at (box (scanner Idle Timeout) (job 0 4294967294 77 0 0) (side 1 0 90) (settings 1 0) (feed Loaded Jammed 1 0) (ring 3 0))) (scan (StartScan 0 0 1 123))
+    (told (time 123) (box (scanner Pending None) (job 4294967295 4294967295 123 0 0) (side 1 0 90) (settings 0 1) (feed Loaded Jammed 1 0) (ring 3 0))) refl
+    ∷ case "the first job is 1" (at (box (scanner Idle Timeout) (job 0 0 77 0 0) (side 1 0 90) (settings 1 0) (feed Loaded Jammed 1 0) (ring 3 0)))
+    (scan (StartScan 0 0 1 123))
+    (told (time 123) (box (scanner Pending None) (job 1 1 123 0 0) (side 1 0 90) (settings 0 1) (feed Loaded Jammed 1 0) (ring 3 0))) refl
+    ∷ []
+
+-- StartScan 601, 501, 711, 713
+pub startScansRefused : List (Case Outcome)
+unfolding final
+startScansRefused =
+    keeps "StartScan 601, UseFeeder 3" (resting (settings 1 0) (feed Loaded Jammed 1 0)) (scan (StartScan 3 0 1 123)) 601 refl
+    ∷ keeps "StartScan 601, Append 3" (resting (settings 1 0) (feed Loaded Jammed 1 0)) (scan (StartScan 1 0 3 123)) 601 refl
+    ∷ keeps "StartScan 601, device-setting is the glass: 2 sides" (resting (settings 0 1) (feed Loaded Jammed 1 0)) (scan (StartScan 2 2 1 123)) 601 refl
+    ∷ keeps "StartScan 601, on the glass 999 sides" (resting (settings 1 0) (feed Loaded Jammed 1 0)) (scan (StartScan 0 999 1 123)) 601 refl
+    ∷ keeps "StartScan 601, on the glass −2" (resting (settings 1 0) (feed Loaded Jammed 1 0)) (scan (StartScan 0 minusTwo 1 123)) 601 refl
+    ∷ keeps "StartScan 601 comes before 501" (holding (settings 1 0) (feed Loaded Jammed 1 0)) (scan (StartScan 1 1000 1 123)) 601 refl
+    ∷ keeps "StartScan 501 in Pending" (holding (settings 1 0) (feed Loaded Jammed 1 0)) (scan (StartScan 1 7 1 123)) 501 refl
+    ∷ keeps "StartScan 501 in Scanning" (drawing 0 8 (ring 3 4)) (scan (StartScan 1 7 1 123)) 501 refl
+    ∷ keeps "StartScan 501 in Finishing" (draining 0 8 (feed Unloaded Jammed 1 0) (ring 3 4)) (scan (StartScan 1 7 1 123)) 501 refl
+    ∷ keeps "StartScan 501 in Erred" (faulty (settings 1 0) (feed Unloaded Jammed 1 0)) (scan (StartScan 1 7 1 123)) 501 refl
+    ∷ keeps "StartScan 501 comes before 711" (holding (settings 0 1) (feed Stuck Jammed 0 1)) (scan (StartScan 1 7 1 123)) 501 refl
+    ∷ keeps "StartScan 501 comes before 713" (holding (settings 0 1) (feed Unloaded Jammed 0 0)) (scan (StartScan 1 7 1 123)) 501 refl
+    ∷ keeps "StartScan 711, path 1" (resting (settings 0 1) (feed Stuck Jammed 0 1)) (scan (StartScan 1 7 1 123)) 711 refl
+    ∷ keeps "StartScan 711, path 0" (resting (settings 0 1) (feed Stuck Jammed 1 0)) (scan (StartScan 1 7 1 123)) 711 refl
+    ∷ keeps "StartScan 711, device-setting is the feeder" (resting (settings 1 0) (feed Stuck Jammed 1 0)) (scan (StartScan 2 minusOne 1 123)) 711 refl
+    ∷ keeps "StartScan 713: the feeder does not move" (resting (settings 0 1) (feed Unloaded Jammed 0 0)) (scan (StartScan 1 7 1 123)) 713 refl
+    ∷ keeps "StartScan 713, device-setting is the feeder" (resting (settings 1 0) (feed Unloaded Jammed 0 0)) (scan (StartScan 2 1 1 123)) 713 refl
+    ∷ []
+
+-- ---- Start: UseFeeder and SideCount stored, FailureCode none, quiet 0; job, granted, SideNumber, Append and the ring stay
+pub starts : List (Case Outcome)
+unfolding final
+starts =
+    case "Start from the feeder in Pending" (holding (settings 0 1) (feed Loaded Jammed 1 0)) (scan (Start 41 1 7))
+    (done (box (scanner Scanning None) (job 41 41 77 0 0) (side 6 7 91) (settings 1 1) (feed Busy Jammed 1 0) (ring 3 0))) refl
+    ∷ case "Start from the feeder in Erred" (faulty (settings 0 1) (feed Unloaded Jammed 1 0)) (scan (Start 41 1 999))
+    (done (box (scanner Scanning None) (job 41 41 77 0 0) (side 6 999 91) (settings 1 1) (feed Busy Jammed 1 0) (ring 3 0))) refl
+    ∷ case "Start on the glass in Erred, the feeder Erred: FailureCode none" (faulty (settings 1 0) (feed Stuck Jammed 0 1)) (scan (Start 41 0 1))
+    (done (box (scanner Scanning None) (job 41 41 77 0 0) (side 6 1 91) (settings 0 0) (feed Stuck Jammed 0 1) (ring 3 0))) refl
+    ∷ case "Start on the glass in Pending" (holding (settings 1 0) (feed Loaded Jammed 1 0)) (scan (Start 41 0 1))
+    (done (box (scanner Scanning None) (job 41 41 77 0 0) (side 6 1 91) (settings 0 0) (feed Loaded Jammed 1 0) (ring 3 0))) refl
+    ∷ case "Start, device-setting keeps UseFeeder 1" (holding (settings 1 0) (feed Unloaded Jammed 1 0)) (scan (Start 41 2 7))
+    (done (box (scanner Scanning None) (job 41 41 77 0 0) (side 6 7 91) (settings 1 0) (feed Busy Jammed 1 0) (ring 3 0))) refl
+    ∷ case "Start, device-setting keeps UseFeeder 0" (holding (settings 0 1) (feed Stuck Jammed 0 1)) (scan (Start 41 2 1))
+    (done (box (scanner Scanning None) (job 41 41 77 0 0) (side 6 1 91) (settings 0 1) (feed Stuck Jammed 0 1) (ring 3 0))) refl
+    ∷ case "Start with −1 from the feeder" (holding (settings 0 0) (feed Loaded Jammed 0 0)) (scan (Start 41 1 minusOne))
+    (done (box (scanner Scanning None) (job 41 41 77 0 0) (side 6 minusOne 91) (settings 1 0) (feed Busy Jammed 0 0) (ring 3 0))) refl
+    ∷ case "Start with −1 on the glass is stored as 1" (holding (settings 1 1) (feed Unloaded Jammed 0 0)) (scan (Start 41 0 minusOne))
+    (done (box (scanner Scanning None) (job 41 41 77 0 0) (side 6 1 91) (settings 0 1) (feed Unloaded Jammed 0 0) (ring 3 0))) refl
+    ∷ case "Start with 0 gives Pending, from an Erred feeder too" (faulty (settings 0 1) (feed Stuck Jammed 0 1)) (scan (Start 41 1 0))
+    (done (box (scanner Pending None) (job 41 41 77 0 0) (side 6 0 90) (settings 1 1) (feed Stuck Jammed 0 1) (ring 3 0))) refl
+    ∷ case "Start: FailureCode none" (holding (settings 1 1) (feed Stuck Jammed 1 0)) (scan (Start 41 0 0))
+    (done (box (scanner Pending None) (job 41 41 77 0 0) (side 6 0 90) (settings 0 1) (feed Stuck Jammed 1 0) (ring 3 0))) refl
+    ∷ []
+
+-- Start 601, 712, 501, 711, 713
+pub startsRefused : List (Case Outcome)
+unfolding final
+startsRefused =
+    keeps "Start 601, UseFeeder 3" (holding (settings 1 0) (feed Loaded Jammed 1 0)) (scan (Start 41 3 0)) 601 refl
+    ∷ keeps "Start 601, SideCount 1000" (holding (settings 1 0) (feed Loaded Jammed 1 0)) (scan (Start 41 1 1000)) 601 refl
+    ∷ keeps "Start 601, SideCount −2" (holding (settings 1 0) (feed Loaded Jammed 1 0)) (scan (Start 41 1 minusTwo)) 601 refl
+    ∷ keeps "Start 601, on the glass 2 sides" (holding (settings 1 0) (feed Loaded Jammed 1 0)) (scan (Start 41 0 2)) 601 refl
+    ∷ keeps "UseFeeder 2 is settled before 601 is judged, in Start too" (holding (settings 0 1) (feed Loaded Jammed 1 0)) (scan (Start 41 2 2)) 601 refl
+    ∷ keeps "Start 601 comes before 712" (holding (settings 1 0) (feed Loaded Jammed 1 0)) (scan (Start 42 3 0)) 601 refl
+    ∷ keeps "Start 712 in Pending" (holding (settings 1 0) (feed Loaded Jammed 1 0)) (scan (Start 42 1 7)) 712 refl
+    ∷ keeps "Start 712 in Idle: 0" (resting (settings 1 0) (feed Loaded Jammed 1 0)) (scan (Start 0 1 7)) 712 refl
+    ∷ keeps "Start 712 in Idle: the last number given" (resting (settings 1 0) (feed Loaded Jammed 1 0)) (scan (Start 41 1 7)) 712 refl
+    ∷ keeps "Start 712 comes before 501" (drawing 0 8 (ring 3 4)) (scan (Start 42 1 7)) 712 refl
+    ∷ keeps "Start 712 comes before 711" (holding (settings 1 0) (feed Stuck Jammed 0 1)) (scan (Start 40 1 7)) 712 refl
+    ∷ keeps "Start 501 in Scanning" (drawing 0 8 (ring 3 4)) (scan (Start 41 1 7)) 501 refl
+    ∷ keeps "Start 501 in Finishing" (draining 0 8 (feed Loaded Jammed 1 0) (ring 3 4)) (scan (Start 41 1 7)) 501 refl
+    ∷ keeps "Start 501 comes before 711" (copying 0 (feed Stuck Jammed 0 1) (ring 3 4)) (scan (Start 41 1 7)) 501 refl
+    ∷ keeps "Start 501 comes before 713" (clearing 0 (feed Unloaded Jammed 0 0) (ring 3 4)) (scan (Start 41 1 7)) 501 refl
+    ∷ keeps "Start 711, path 1" (faulty (settings 0 1) (feed Stuck Jammed 0 1)) (scan (Start 41 1 7)) 711 refl
+    ∷ keeps "Start 711, path 0" (holding (settings 1 0) (feed Stuck Jammed 1 0)) (scan (Start 41 2 7)) 711 refl
+    ∷ keeps "Start 713" (holding (settings 0 1) (feed Unloaded Jammed 0 0)) (scan (Start 41 1 7)) 713 refl
+    ∷ keeps "Start 713, device-setting is the feeder" (faulty (settings 1 0) (feed Unloaded Jammed 0 0)) (scan (Start 41 2 7)) 713 refl
+    ∷ []
+
+-- ---- Stop: Pending or Erred ends the job; Scanning or Finishing sets stop-asked, and quiet stays
+pub stops : List (Case Outcome)
+unfolding final
+stops =
+    case "Stop in Pending ends the job: ring emptied, FailureCode none" (holding (settings 1 0) (feed Loaded Jammed 1 0)) (scan (Stop 41))
+    (done (box (scanner Idle None) (job 0 41 77 0 0) (side 1 0 90) (settings 1 0) (feed Loaded Jammed 1 0) (ring 0 0))) refl
+    ∷ case "Stop in Erred ends the job: the feeder stays Erred" (faulty (settings 0 1) (feed Stuck Jammed 0 1)) (scan (Stop 41))
+    (done (box (scanner Idle None) (job 0 41 77 0 0) (side 1 0 90) (settings 0 1) (feed Stuck Jammed 0 1) (ring 0 0))) refl
+    ∷ case "Stop in Scanning from the feeder asks: quiet stays 13" (drawing 0 8 (ring 3 4)) (scan (Stop 41))
+    (done (box (scanner Scanning Timeout) (job 41 41 77 13 1) (side 6 8 90) (settings 1 0) (feed Busy Jammed 1 0) (ring 3 4))) refl
+    ∷ case "Stop in Scanning on the glass asks" (copying 0 (feed Loaded Jammed 1 0) (ring 3 4)) (scan (Stop 41))
+    (done (box (scanner Scanning Timeout) (job 41 41 77 13 1) (side 6 1 90) (settings 0 1) (feed Loaded Jammed 1 0) (ring 3 4))) refl
+    ∷ case "Stop in Finishing asks" (draining 0 8 (feed Loaded Jammed 1 0) (ring 3 4)) (scan (Stop 41))
+    (done (box (scanner Finishing Timeout) (job 41 41 77 13 1) (side 6 8 90) (settings 1 0) (feed Loaded Jammed 1 0) (ring 3 4))) refl
+    ∷ case "Stop in Finishing on the glass asks" (clearing 0 (feed Stuck Jammed 0 1) (ring 3 4)) (scan (Stop 41))
+    (done (box (scanner Finishing Timeout) (job 41 41 77 13 1) (side 6 0 90) (settings 0 1) (feed Stuck Jammed 0 1) (ring 3 4))) refl
+    ∷ case "Stop where a stop is asked" (drawing 1 8 (ring 3 4)) (scan (Stop 41))
+    (done (box (scanner Scanning Timeout) (job 41 41 77 13 1) (side 6 8 90) (settings 1 0) (feed Busy Jammed 1 0) (ring 3 4))) refl
+    ∷ keeps "Stop 712" (drawing 0 8 (ring 3 4)) (scan (Stop 42)) 712 refl
+    ∷ keeps "Stop 712 in Pending" (holding (settings 1 0) (feed Loaded Jammed 1 0)) (scan (Stop 0)) 712 refl
+    ∷ keeps "Stop 712 in Idle: 0" (resting (settings 1 0) (feed Loaded Jammed 1 0)) (scan (Stop 0)) 712 refl
+    ∷ keeps "Stop 712 in Idle: the last number given" (resting (settings 1 0) (feed Loaded Jammed 1 0)) (scan (Stop 41)) 712 refl
+    ∷ []
+
+-- Abort ends the job: Busy becomes Unloaded, any other feeder stays; settings, granted, the last number and DestinationID stay
+pub aborts : List (Case Outcome)
+unfolding final
+aborts =
+    case "Abort in Scanning: no ring bytes, no stop, the feeder Unloaded" (drawing 1 8 (ring 3 4)) (scan (Abort 41))
+    (done (box (scanner Idle None) (job 0 41 77 0 0) (side 1 0 90) (settings 1 0) (feed Unloaded Jammed 1 0) (ring 0 0))) refl
+    ∷ case "Abort in Scanning on the glass: the feeder stays Loaded" (copying 1 (feed Loaded Timeout 1 0) (ring 3 4)) (scan (Abort 41))
+    (done (box (scanner Idle None) (job 0 41 77 0 0) (side 1 0 90) (settings 0 1) (feed Loaded Timeout 1 0) (ring 0 0))) refl
+    ∷ case "Abort in Pending: the feeder stays Unloaded" (holding (settings 0 1) (feed Unloaded Jammed 0 0)) (scan (Abort 41))
+    (done (box (scanner Idle None) (job 0 41 77 0 0) (side 1 0 90) (settings 0 1) (feed Unloaded Jammed 0 0) (ring 0 0))) refl
+    ∷ case "Abort in Finishing: the feeder stays Loaded" (draining 1 8 (feed Loaded Jammed 0 0) (ring 3 4)) (scan (Abort 41))
+    (done (box (scanner Idle None) (job 0 41 77 0 0) (side 1 0 90) (settings 1 0) (feed Loaded Jammed 0 0) (ring 0 0))) refl
+    ∷ case "Abort in Finishing on the glass: the feeder stays Erred" (clearing 0 (feed Stuck Jammed 1 0) (ring 3 4)) (scan (Abort 41))
+    (done (box (scanner Idle None) (job 0 41 77 0 0) (side 1 0 90) (settings 0 1) (feed Stuck Jammed 1 0) (ring 0 0))) refl
+    ∷ case "Abort in Erred: the feeder stays Erred" (faulty (settings 1 1) (feed Stuck Jammed 0 1)) (scan (Abort 41))
+    (done (box (scanner Idle None) (job 0 41 77 0 0) (side 1 0 90) (settings 1 1) (feed Stuck Jammed 0 1) (ring 0 0))) refl
+    ∷ keeps "Abort 712" (drawing 0 8 (ring 3 4)) (scan (Abort 42)) 712 refl
+    ∷ keeps "Abort 712 in Pending" (holding (settings 1 0) (feed Loaded Jammed 1 0)) (scan (Abort 0)) 712 refl
+    ∷ keeps "Abort 712 in Idle: 0" (resting (settings 1 0) (feed Loaded Jammed 1 0)) (scan (Abort 0)) 712 refl
+    ∷ keeps "Abort 712 in Idle: the last number given" (resting (settings 1 0) (feed Loaded Jammed 1 0)) (scan (Abort 41)) 712 refl
+    ∷ []
+
+-- ---- GetDestination, GetState, GetSideInformation: nothing changes
+pub reads : List (Case Outcome)
+unfolding final
+reads =
+    case "the name without Append" (drawing 0 8 (ring 3 4)) (scan (GetDestination 41))
+    (told (destination J41 90) (box (scanner Scanning Timeout) (job 41 41 77 13 0) (side 6 8 90) (settings 1 0) (feed Busy Jammed 1 0) (ring 3 4))) refl
+    ∷ case "the name with Append" (copying 0 (feed Loaded Jammed 1 0) (ring 3 4)) (scan (GetDestination 41))
+    (told (destination J41-006 90) (box (scanner Scanning Timeout) (job 41 41 77 13 0) (side 6 1 90) (settings 0 1) (feed Loaded Jammed 1 0) (ring 3 4))) refl
+    ∷ case "ten digits of job, three of SideNumber"
+    (at (box (scanner Pending Timeout) (job 1234567890 1234567890 77 13 0) (side 987 8 90) (settings 1 1) (feed Loaded Jammed 1 0) (ring 3 0)))
+    (scan (GetDestination 1234567890))
+    (told (destination J1234567890-987 90)
+    (box (scanner Pending Timeout) (job 1234567890 1234567890 77 13 0) (side 987 8 90) (settings 1 1) (feed Loaded Jammed 1 0) (ring 3 0))) refl
+    ∷ case "ten digits of job alone"
+    (at (box (scanner Erred Timeout) (job 1234567890 1234567890 77 13 0) (side 987 8 90) (settings 1 0) (feed Unloaded Jammed 1 0) (ring 3 0)))
+    (scan (GetDestination 1234567890))
+    (told (destination J1234567890 90)
+    (box (scanner Erred Timeout) (job 1234567890 1234567890 77 13 0) (side 987 8 90) (settings 1 0) (feed Unloaded Jammed 1 0) (ring 3 0))) refl
+    ∷ case "the name of the greatest job and side"
+    (at (box (scanner Finishing Timeout) (job 4294967295 4294967295 77 13 1) (side 999 8 90) (settings 1 1) (feed Loaded Jammed 1 0) (ring 3 4)))
+    (scan (GetDestination 4294967295))
+    (told (destination J4294967295-999 90)
+    (box (scanner Finishing Timeout) (job 4294967295 4294967295 77 13 1) (side 999 8 90) (settings 1 1) (feed Loaded Jammed 1 0) (ring 3 4))) refl
+    ∷ keeps "GetDestination 712" (holding (settings 1 0) (feed Loaded Jammed 1 0)) (scan (GetDestination 42)) 712 refl
+    ∷ keeps "GetDestination 712 in Idle: 0" (resting (settings 1 0) (feed Loaded Jammed 1 0)) (scan (GetDestination 0)) 712 refl
+    ∷ keeps "GetDestination 712 in Idle: the last number given" (resting (settings 1 0) (feed Loaded Jammed 1 0)) (scan (GetDestination 41)) 712 refl
+    ∷ case "GetState in Idle" (resting (settings 1 0) (feed Loaded Jammed 1 0)) (scan GetState)
+    (told (state Idle Timeout) (box (scanner Idle Timeout) (job 0 41 77 0 0) (side 1 0 90) (settings 1 0) (feed Loaded Jammed 1 0) (ring 3 0))) refl
+    ∷ case "GetState in Pending" (at (box (scanner Pending None) (job 41 41 77 13 0) (side 6 8 90) (settings 1 0) (feed Loaded Jammed 1 0) (ring 3 0)))
+    (scan GetState)
+    (told (state Pending None) (box (scanner Pending None) (job 41 41 77 13 0) (side 6 8 90) (settings 1 0) (feed Loaded Jammed 1 0) (ring 3 0))) refl
+    ∷ case "GetState in Scanning" (drawing 1 8 (ring 3 4)) (scan GetState)
+    (told (state Scanning Timeout) (box (scanner Scanning Timeout) (job 41 41 77 13 1) (side 6 8 90) (settings 1 0) (feed Busy Jammed 1 0) (ring 3 4))) refl
+    ∷ case "GetState in Finishing" (clearing 0 (feed Loaded Jammed 1 0) (ring 3 4)) (scan GetState)
+    (told (state Finishing Timeout) (box (scanner Finishing Timeout) (job 41 41 77 13 0) (side 6 0 90) (settings 0 1) (feed Loaded Jammed 1 0) (ring 3 4)))
+    refl
+    ∷ case "GetState in Erred" (at (box (scanner Erred Jammed) (job 41 41 77 13 0) (side 6 8 90) (settings 1 0) (feed Stuck Timeout 0 1) (ring 3 0)))
+    (scan GetState)
+    (told (state Erred Jammed) (box (scanner Erred Jammed) (job 41 41 77 13 0) (side 6 8 90) (settings 1 0) (feed Stuck Timeout 0 1) (ring 3 0))) refl
+    ∷ case "GetSideInformation: ScanLength 0" (drawing 0 8 (ring 3 4)) (scan GetSideInformation)
+    (told (sides 6 8 0) (box (scanner Scanning Timeout) (job 41 41 77 13 0) (side 6 8 90) (settings 1 0) (feed Busy Jammed 1 0) (ring 3 4))) refl
+    ∷ case "GetSideInformation with −1" (drawing 1 minusOne (ring 3 4)) (scan GetSideInformation)
+    (told (sides 6 minusOne 0) (box (scanner Scanning Timeout) (job 41 41 77 13 1) (side 6 minusOne 90) (settings 1 0) (feed Busy Jammed 1 0) (ring 3 4)))
+    refl
+    ∷ case "GetSideInformation in Idle" (resting (settings 1 0) (feed Loaded Jammed 1 0)) (scan GetSideInformation)
+    (told (sides 1 0 0) (box (scanner Idle Timeout) (job 0 41 77 0 0) (side 1 0 90) (settings 1 0) (feed Loaded Jammed 1 0) (ring 3 0))) refl
+    ∷ []
+
+-- ---- Fetch: k is the least of stored, most and reply length less 4; oldest byte out first, round the ring's end
+pub fetches : List (Case Outcome)
+unfolding final
+fetches =
+    case "k by what is stored; later bytes stay; not last in Scanning" (drawing 0 8 (ring 3 4)) (scan (Fetch J41 255 nine))
+    (sent 4 false (24 ∷ 25 ∷ 21 ∷ 22 ∷ []) (69 ∷ [])
+    (box (scanner Scanning Timeout) (job 41 41 77 0 0) (side 6 8 90) (settings 1 0) (feed Busy Jammed 1 0) (ring 2 0))) refl
+    ∷ case "k by most" (drawing 0 8 (ring 3 4)) (scan (Fetch J41 3 nine))
+    (sent 3 false (24 ∷ 25 ∷ 21 ∷ []) (68 ∷ 69 ∷ [])
+    (box (scanner Scanning Timeout) (job 41 41 77 0 0) (side 6 8 90) (settings 1 0) (feed Busy Jammed 1 0) (ring 1 1))) refl
+    ∷ case "k by the reply's length: start comes to the ring's end" (copying 1 (feed Loaded Jammed 1 0) (ring 3 4))
+    (scan (Fetch J41-006 255 (61 ∷ 62 ∷ 63 ∷ 64 ∷ 65 ∷ 66 ∷ [])))
+    (sent 2 false (24 ∷ 25 ∷ []) [] (box (scanner Scanning Timeout) (job 41 41 77 0 1) (side 6 1 90) (settings 0 1) (feed Loaded Jammed 1 0) (ring 0 2))) refl
+    ∷ case "k 1 is a sign of life" (drawing 0 8 (ring 3 4)) (scan (Fetch J41 1 nine))
+    (sent 1 false (24 ∷ []) (66 ∷ 67 ∷ 68 ∷ 69 ∷ [])
+    (box (scanner Scanning Timeout) (job 41 41 77 0 0) (side 6 8 90) (settings 1 0) (feed Busy Jammed 1 0) (ring 4 3))) refl
+    ∷ case "k 1 by the reply's length" (drawing 0 8 (ring 1 4)) (scan (Fetch J41 2 (61 ∷ 62 ∷ 63 ∷ 64 ∷ 65 ∷ [])))
+    (sent 1 false (22 ∷ []) [] (box (scanner Scanning Timeout) (job 41 41 77 0 0) (side 6 8 90) (settings 1 0) (feed Busy Jammed 1 0) (ring 2 3))) refl
+    ∷ case "k by all three: the whole ring" (drawing 0 8 (ring 1 5)) (scan (Fetch J41 5 nine))
+    (sent 5 false (22 ∷ 23 ∷ 24 ∷ 25 ∷ 21 ∷ []) []
+    (box (scanner Scanning Timeout) (job 41 41 77 0 0) (side 6 8 90) (settings 1 0) (feed Busy Jammed 1 0) (ring 1 0))) refl
+    ∷ case "most 0: k 0, quiet stays" (drawing 0 8 (ring 3 4)) (scan (Fetch J41 0 nine))
+    (sent 0 false [] (65 ∷ 66 ∷ 67 ∷ 68 ∷ 69 ∷ [])
+    (box (scanner Scanning Timeout) (job 41 41 77 13 0) (side 6 8 90) (settings 1 0) (feed Busy Jammed 1 0) (ring 3 4))) refl
+    ∷ case "a reply of 4 bytes: k 0, quiet stays" (drawing 0 8 (ring 3 4)) (scan (Fetch J41 255 (61 ∷ 62 ∷ 63 ∷ 64 ∷ [])))
+    (sent 0 false [] [] (box (scanner Scanning Timeout) (job 41 41 77 13 0) (side 6 8 90) (settings 1 0) (feed Busy Jammed 1 0) (ring 3 4))) refl
+    ∷ case "none stored in Scanning: k 0, not last" (drawing 1 8 (ring 3 0)) (scan (Fetch J41 255 nine))
+    (sent 0 false [] (65 ∷ 66 ∷ 67 ∷ 68 ∷ 69 ∷ [])
+    (box (scanner Scanning Timeout) (job 41 41 77 13 1) (side 6 8 90) (settings 1 0) (feed Busy Jammed 1 0) (ring 3 0))) refl
+    ∷ case "a fetch of the present name in Pending: k 0" (holding (settings 1 0) (feed Loaded Jammed 1 0)) (scan (Fetch J41 255 nine))
+    (sent 0 false [] (65 ∷ 66 ∷ 67 ∷ 68 ∷ 69 ∷ [])
+    (box (scanner Pending Timeout) (job 41 41 77 13 0) (side 6 8 90) (settings 1 0) (feed Loaded Jammed 1 0) (ring 3 0))) refl
+    ∷ case "a fetch of the present name in Erred: k 0" (faulty (settings 0 1) (feed Stuck Jammed 0 1)) (scan (Fetch J41-006 255 nine))
+    (sent 0 false [] (65 ∷ 66 ∷ 67 ∷ 68 ∷ 69 ∷ [])
+    (box (scanner Erred Timeout) (job 41 41 77 13 0) (side 6 8 90) (settings 0 1) (feed Stuck Jammed 0 1) (ring 3 0))) refl
+    ∷ case "in Finishing, bytes stay: not last" (draining 0 8 (feed Loaded Jammed 1 0) (ring 3 4)) (scan (Fetch J41 3 nine))
+    (sent 3 false (24 ∷ 25 ∷ 21 ∷ []) (68 ∷ 69 ∷ [])
+    (box (scanner Finishing Timeout) (job 41 41 77 0 0) (side 6 8 90) (settings 1 0) (feed Loaded Jammed 1 0) (ring 1 1))) refl
+    ∷ case "in Finishing, k 0: not last, quiet stays" (draining 1 8 (feed Loaded Jammed 1 0) (ring 3 4)) (scan (Fetch J41 0 nine))
+    (sent 0 false [] (65 ∷ 66 ∷ 67 ∷ 68 ∷ 69 ∷ [])
+    (box (scanner Finishing Timeout) (job 41 41 77 13 1) (side 6 8 90) (settings 1 0) (feed Loaded Jammed 1 0) (ring 3 4))) refl
+    ∷ case "the greatest name"
+    (at (box (scanner Pending Timeout) (job 4294967295 4294967295 77 13 0) (side 999 8 90) (settings 1 1) (feed Loaded Jammed 1 0) (ring 3 0)))
+    (scan (Fetch J4294967295-999 255 nine))
+    (sent 0 false [] (65 ∷ 66 ∷ 67 ∷ 68 ∷ 69 ∷ [])
+    (box (scanner Pending Timeout) (job 4294967295 4294967295 77 13 0) (side 999 8 90) (settings 1 1) (feed Loaded Jammed 1 0) (ring 3 0))) refl
+    ∷ []
+
+-- Fetch 404, 603: the reply stays as it was lent
+pub fetchesRefused : List (Case Outcome)
+unfolding final
+fetchesRefused =
+    case "Fetch 404, another job" (drawing 0 8 (ring 3 4)) (scan (Fetch J42 255 nine))
+    (out 404 nothing (box (scanner Scanning Timeout) (job 41 41 77 13 0) (side 6 8 90) (settings 1 0) (feed Busy Jammed 1 0) (ring 3 4)) five nine) refl
+    ∷ case "Fetch 404, another side" (copying 0 (feed Loaded Jammed 1 0) (ring 3 4)) (scan (Fetch J41-007 255 nine))
+    (out 404 nothing (box (scanner Scanning Timeout) (job 41 41 77 13 0) (side 6 1 90) (settings 0 1) (feed Loaded Jammed 1 0) (ring 3 4)) five nine) refl
+    ∷ case "Fetch 404, a side where there is none" (drawing 0 8 (ring 3 4)) (scan (Fetch J41-006 255 nine))
+    (out 404 nothing (box (scanner Scanning Timeout) (job 41 41 77 13 0) (side 6 8 90) (settings 1 0) (feed Busy Jammed 1 0) (ring 3 4)) five nine) refl
+    ∷ case "Fetch 404, no side where there is one" (copying 0 (feed Loaded Jammed 1 0) (ring 3 4)) (scan (Fetch J41 255 nine))
+    (out 404 nothing (box (scanner Scanning Timeout) (job 41 41 77 13 0) (side 6 1 90) (settings 0 1) (feed Loaded Jammed 1 0) (ring 3 4)) five nine) refl
+    ∷ case "Fetch 404, the name is cut" (drawing 0 8 (ring 3 4))
+    (scan (Fetch (74 ∷ 48 ∷ 48 ∷ 48 ∷ 48 ∷ 48 ∷ 48 ∷ 48 ∷ 48 ∷ 52 ∷ 49 ∷ 46 ∷ 106 ∷ 112 ∷ []) 255 nine))
+    (out 404 nothing (box (scanner Scanning Timeout) (job 41 41 77 13 0) (side 6 8 90) (settings 1 0) (feed Busy Jammed 1 0) (ring 3 4)) five nine) refl
+    ∷ case "Fetch 404, a byte behind the name" (drawing 0 8 (ring 3 4))
+    (scan (Fetch (74 ∷ 48 ∷ 48 ∷ 48 ∷ 48 ∷ 48 ∷ 48 ∷ 48 ∷ 48 ∷ 52 ∷ 49 ∷ 46 ∷ 106 ∷ 112 ∷ 103 ∷ 103 ∷ []) 255 nine))
+    (out 404 nothing (box (scanner Scanning Timeout) (job 41 41 77 13 0) (side 6 8 90) (settings 1 0) (feed Busy Jammed 1 0) (ring 3 4)) five nine) refl
+    ∷ case "Fetch 404, another letter in front" (drawing 0 8 (ring 3 4))
+    (scan (Fetch (75 ∷ 48 ∷ 48 ∷ 48 ∷ 48 ∷ 48 ∷ 48 ∷ 48 ∷ 48 ∷ 52 ∷ 49 ∷ 46 ∷ 106 ∷ 112 ∷ 103 ∷ []) 255 nine))
+    (out 404 nothing (box (scanner Scanning Timeout) (job 41 41 77 13 0) (side 6 8 90) (settings 1 0) (feed Busy Jammed 1 0) (ring 3 4)) five nine) refl
+    ∷ case "Fetch 404, no name" (holding (settings 1 0) (feed Loaded Jammed 1 0)) (scan (Fetch [] 255 nine))
+    (out 404 nothing (box (scanner Pending Timeout) (job 41 41 77 13 0) (side 6 8 90) (settings 1 0) (feed Loaded Jammed 1 0) (ring 3 0)) five nine) refl
+    ∷ case "Fetch 404 in Idle" (resting (settings 1 1) (feed Loaded Jammed 1 0)) (scan (Fetch J0-001 255 nine))
+    (out 404 nothing (box (scanner Idle Timeout) (job 0 41 77 0 0) (side 1 0 90) (settings 1 1) (feed Loaded Jammed 1 0) (ring 3 0)) five nine) refl
+    ∷ keeps "Fetch 404 comes before 603" (draining 0 8 (feed Loaded Jammed 1 0) (ring 3 4)) (scan (Fetch J42 255 [])) 404 refl
+    ∷ case "Fetch 603, a reply of 3 bytes" (drawing 0 8 (ring 3 4)) (scan (Fetch J41 255 (61 ∷ 62 ∷ 63 ∷ [])))
+    (out 603 nothing (box (scanner Scanning Timeout) (job 41 41 77 13 0) (side 6 8 90) (settings 1 0) (feed Busy Jammed 1 0) (ring 3 4)) five
+    (61 ∷ 62 ∷ 63 ∷ [])) refl
+    ∷ keeps "Fetch 603, most 0 and no reply" (holding (settings 1 0) (feed Loaded Jammed 1 0)) (scan (Fetch J41 0 [])) 603 refl
+    ∷ []
+
+-- ---- the drain step after the last byte: SideNumber plus 1
+pub drains : List (Case Outcome)
+unfolding final
+drains =
+    case "last, SideCount 0: Pending" (draining 0 0 (feed Loaded Jammed 1 0) (ring 3 4)) (scan (Fetch J41 255 nine))
+    (sent 4 true (24 ∷ 25 ∷ 21 ∷ 22 ∷ []) (69 ∷ [])
+    (box (scanner Pending Timeout) (job 41 41 77 0 0) (side 7 0 90) (settings 1 0) (feed Loaded Jammed 1 0) (ring 2 0))) refl
+    ∷ case "last on the glass: Pending" (clearing 0 (feed Loaded Jammed 1 0) (ring 3 4)) (scan (Fetch J41-006 4 nine))
+    (sent 4 true (24 ∷ 25 ∷ 21 ∷ 22 ∷ []) (69 ∷ [])
+    (box (scanner Pending Timeout) (job 41 41 77 0 0) (side 7 0 90) (settings 0 1) (feed Loaded Jammed 1 0) (ring 2 0))) refl
+    ∷ case "last, SideCount 8, Loaded: a side begins" (draining 0 8 (feed Loaded Jammed 0 0) (ring 3 4)) (scan (Fetch J41 255 nine))
+    (sent 4 true (24 ∷ 25 ∷ 21 ∷ 22 ∷ []) (69 ∷ [])
+    (box (scanner Scanning Timeout) (job 41 41 77 0 0) (side 7 8 91) (settings 1 0) (feed Busy Jammed 0 0) (ring 2 0))) refl
+    ∷ case "last, SideCount 8, a sheet in the tray: a side begins" (draining 0 8 (feed Unloaded Jammed 1 0) (ring 2 1)) (scan (Fetch J41 255 nine))
+    (sent 1 true (23 ∷ []) (66 ∷ 67 ∷ 68 ∷ 69 ∷ [])
+    (box (scanner Scanning Timeout) (job 41 41 77 0 0) (side 7 8 91) (settings 1 0) (feed Busy Jammed 1 0) (ring 3 0))) refl
+    ∷ case "last, SideCount −1: a side begins, −1 stays" (draining 0 minusOne (feed Unloaded Jammed 1 0) (ring 2 3)) (scan (Fetch J41 255 nine))
+    (sent 3 true (23 ∷ 24 ∷ 25 ∷ []) (68 ∷ 69 ∷ [])
+    (box (scanner Scanning Timeout) (job 41 41 77 0 0) (side 7 minusOne 91) (settings 1 0) (feed Busy Jammed 1 0) (ring 0 0))) refl
+    ∷ case "a stop asked ends the job in the drain step" (draining 1 8 (feed Loaded Jammed 1 0) (ring 3 4)) (scan (Fetch J41 255 nine))
+    (sent 4 true (24 ∷ 25 ∷ 21 ∷ 22 ∷ []) (69 ∷ [])
+    (box (scanner Idle None) (job 0 41 77 0 0) (side 1 0 90) (settings 1 0) (feed Loaded Jammed 1 0) (ring 0 0))) refl
+    ∷ case "a stop asked on the glass too" (clearing 1 (feed Stuck Jammed 0 1) (ring 3 4)) (scan (Fetch J41-006 255 nine))
+    (sent 4 true (24 ∷ 25 ∷ 21 ∷ 22 ∷ []) (69 ∷ [])
+    (box (scanner Idle None) (job 0 41 77 0 0) (side 1 0 90) (settings 0 1) (feed Stuck Jammed 0 1) (ring 0 0))) refl
+    ∷ case "the stop comes before SideCount 0" (draining 1 0 (feed Unloaded Jammed 1 0) (ring 3 4)) (scan (Fetch J41 255 nine))
+    (sent 4 true (24 ∷ 25 ∷ 21 ∷ 22 ∷ []) (69 ∷ [])
+    (box (scanner Idle None) (job 0 41 77 0 0) (side 1 0 90) (settings 1 0) (feed Unloaded Jammed 1 0) (ring 0 0))) refl
+    ∷ case "the stop comes before 711" (draining 1 8 (feed Stuck Jammed 0 1) (ring 3 4)) (scan (Fetch J41 255 nine))
+    (sent 4 true (24 ∷ 25 ∷ 21 ∷ 22 ∷ []) (69 ∷ [])
+    (box (scanner Idle None) (job 0 41 77 0 0) (side 1 0 90) (settings 1 0) (feed Stuck Jammed 0 1) (ring 0 0))) refl
+    ∷ case "the stop comes before 713" (draining 1 minusOne (feed Unloaded Jammed 0 0) (ring 3 4)) (scan (Fetch J41 255 nine))
+    (sent 4 true (24 ∷ 25 ∷ 21 ∷ 22 ∷ []) (69 ∷ [])
+    (box (scanner Idle None) (job 0 41 77 0 0) (side 1 0 90) (settings 1 0) (feed Unloaded Jammed 0 0) (ring 0 0))) refl
+    ∷ case "the drain step's 711 leaves the ring's start" (draining 0 8 (feed Stuck Jammed 0 1) (ring 3 4)) (scan (Fetch J41 255 nine))
+    (sent 4 true (24 ∷ 25 ∷ 21 ∷ 22 ∷ []) (69 ∷ [])
+    (box (scanner Erred Jammed) (job 41 41 77 0 0) (side 7 8 90) (settings 1 0) (feed Stuck Jammed 0 1) (ring 2 0))) refl
+    ∷ case "and is not the fetch's own number" (draining 0 minusOne (feed Stuck Timeout 0 0) (ring 3 4)) (scan (Fetch J41 255 nine))
+    (sent 4 true (24 ∷ 25 ∷ 21 ∷ 22 ∷ []) (69 ∷ [])
+    (box (scanner Erred Jammed) (job 41 41 77 0 0) (side 7 minusOne 90) (settings 1 0) (feed Stuck Timeout 0 0) (ring 2 0))) refl
+    ∷ case "nor is its 713: Pending, SideCount kept" (draining 0 8 (feed Unloaded Jammed 0 0) (ring 3 4)) (scan (Fetch J41 255 nine))
+    (sent 4 true (24 ∷ 25 ∷ 21 ∷ 22 ∷ []) (69 ∷ [])
+    (box (scanner Pending Timeout) (job 41 41 77 0 0) (side 7 8 90) (settings 1 0) (feed Unloaded Jammed 0 0) (ring 2 0))) refl
+    ∷ case "or 0 where it was −1" (draining 0 minusOne (feed Unloaded Jammed 0 0) (ring 3 4)) (scan (Fetch J41 255 nine))
+    (sent 4 true (24 ∷ 25 ∷ 21 ∷ 22 ∷ []) (69 ∷ [])
+    (box (scanner Pending Timeout) (job 41 41 77 0 0) (side 7 0 90) (settings 1 0) (feed Unloaded Jammed 0 0) (ring 2 0))) refl
+    ∷ case "SideCount 0 comes before 711" (draining 0 0 (feed Stuck Jammed 0 1) (ring 3 4)) (scan (Fetch J41 255 nine))
+    (sent 4 true (24 ∷ 25 ∷ 21 ∷ 22 ∷ []) (69 ∷ [])
+    (box (scanner Pending Timeout) (job 41 41 77 0 0) (side 7 0 90) (settings 1 0) (feed Stuck Jammed 0 1) (ring 2 0))) refl
+    ∷ case "SideCount 0 comes before 713" (draining 0 0 (feed Unloaded Jammed 0 0) (ring 3 4)) (scan (Fetch J41 255 nine))
+    (sent 4 true (24 ∷ 25 ∷ 21 ∷ 22 ∷ []) (69 ∷ [])
+    (box (scanner Pending Timeout) (job 41 41 77 0 0) (side 7 0 90) (settings 1 0) (feed Unloaded Jammed 0 0) (ring 2 0))) refl
+    ∷ case "SideNumber 998 goes to 999"
+    (at (box (scanner Finishing Timeout) (job 41 41 77 13 0) (side 998 8 90) (settings 1 0) (feed Loaded Jammed 1 0) (ring 3 4))) (scan (Fetch J41 255 nine))
+    (sent 4 true (24 ∷ 25 ∷ 21 ∷ 22 ∷ []) (69 ∷ [])
+    (box (scanner Scanning Timeout) (job 41 41 77 0 0) (side 999 8 91) (settings 1 0) (feed Busy Jammed 1 0) (ring 2 0))) refl
+    ∷ case "SideNumber 999 goes to 0, DestinationID 4,294,967,295 too"
+    (at (box (scanner Finishing Timeout) (job 41 41 77 13 0) (side 999 8 4294967295) (settings 1 0) (feed Loaded Jammed 1 0) (ring 3 4)))
+    (scan (Fetch J41 255 nine))
+    (sent 4 true (24 ∷ 25 ∷ 21 ∷ 22 ∷ []) (69 ∷ [])
+    (box (scanner Scanning Timeout) (job 41 41 77 0 0) (side 0 8 0) (settings 1 0) (feed Busy Jammed 1 0) (ring 2 0))) refl
+    ∷ case "SideNumber 0 goes to 1"
+    (at (box (scanner Finishing Timeout) (job 41 41 77 13 0) (side 0 0 90) (settings 1 0) (feed Loaded Jammed 1 0) (ring 3 4))) (scan (Fetch J41 255 nine))
+    (sent 4 true (24 ∷ 25 ∷ 21 ∷ 22 ∷ []) (69 ∷ [])
+    (box (scanner Pending Timeout) (job 41 41 77 0 0) (side 1 0 90) (settings 1 0) (feed Loaded Jammed 1 0) (ring 2 0))) refl
+    ∷ []
+
+-- ---- Bytes: in behind the stored ones, round the ring's end, and no other ring byte changes
+pub byteReports : List (Case Outcome)
+unfolding final
+byteReports =
+    case "round the ring's end" (drawing 0 8 (ring 3 1)) (report (Bytes (71 ∷ 72 ∷ 73 ∷ [])))
+    (took 3 (72 ∷ 73 ∷ 23 ∷ 24 ∷ 71 ∷ []) (box (scanner Scanning Timeout) (job 41 41 77 0 0) (side 6 8 90) (settings 1 0) (feed Busy Jammed 1 0) (ring 3 4)))
+    refl
+    ∷ case "from the ring's front" (drawing 1 8 (ring 3 2)) (report (Bytes (71 ∷ 72 ∷ [])))
+    (took 2 (71 ∷ 72 ∷ 23 ∷ 24 ∷ 25 ∷ []) (box (scanner Scanning Timeout) (job 41 41 77 0 1) (side 6 8 90) (settings 1 0) (feed Busy Jammed 1 0) (ring 3 4)))
+    refl
+    ∷ case "past the ring's front: bytes that fill the ring" (copying 0 (feed Loaded Jammed 1 0) (ring 3 4)) (report (Bytes (71 ∷ [])))
+    (took 1 (21 ∷ 22 ∷ 71 ∷ 24 ∷ 25 ∷ [])
+    (box (scanner Scanning Timeout) (job 41 41 77 0 0) (side 6 1 90) (settings 0 1) (feed Loaded Jammed 1 0) (ring 3 5))) refl
+    ∷ case "straight on" (copying 1 (feed Stuck Jammed 0 1) (ring 0 1)) (report (Bytes (71 ∷ 72 ∷ 73 ∷ [])))
+    (took 3 (21 ∷ 71 ∷ 72 ∷ 73 ∷ 25 ∷ []) (box (scanner Scanning Timeout) (job 41 41 77 0 1) (side 6 1 90) (settings 0 1) (feed Stuck Jammed 0 1) (ring 0 4)))
+    refl
+    ∷ case "into an empty ring, all of it" (drawing 0 8 (ring 3 0)) (report (Bytes (71 ∷ 72 ∷ 73 ∷ 74 ∷ 75 ∷ [])))
+    (took 5 (73 ∷ 74 ∷ 75 ∷ 71 ∷ 72 ∷ []) (box (scanner Scanning Timeout) (job 41 41 77 0 0) (side 6 8 90) (settings 1 0) (feed Busy Jammed 1 0) (ring 3 5)))
+    refl
+    ∷ case "none given: nothing changes" (drawing 0 8 (ring 3 4)) (report (Bytes []))
+    (told (stored 0) (box (scanner Scanning Timeout) (job 41 41 77 13 0) (side 6 8 90) (settings 1 0) (feed Busy Jammed 1 0) (ring 3 4))) refl
+    ∷ case "in Scanning accepted, the ring full" (copying 0 (feed Loaded Jammed 1 0) (ring 3 5)) (report (Bytes []))
+    (told (stored 0) (box (scanner Scanning Timeout) (job 41 41 77 13 0) (side 6 1 90) (settings 0 1) (feed Loaded Jammed 1 0) (ring 3 5))) refl
+    ∷ keeps "Bytes 603: one too many, none go in" (drawing 0 8 (ring 3 4)) (report (Bytes (71 ∷ 72 ∷ []))) 603 refl
+    ∷ keeps "Bytes 603: the ring full" (copying 0 (feed Loaded Jammed 1 0) (ring 3 5)) (report (Bytes (71 ∷ []))) 603 refl
+    ∷ keeps "Bytes 603: six into an empty ring" (drawing 0 8 (ring 3 0)) (report (Bytes (71 ∷ 72 ∷ 73 ∷ 74 ∷ 75 ∷ 76 ∷ []))) 603 refl
+    ∷ keeps "Bytes 501 in Idle" (resting (settings 1 0) (feed Loaded Jammed 1 0)) (report (Bytes (71 ∷ []))) 501 refl
+    ∷ keeps "Bytes 501 in Pending" (holding (settings 1 0) (feed Loaded Jammed 1 0)) (report (Bytes (71 ∷ []))) 501 refl
+    ∷ keeps "Bytes 501 in Finishing" (draining 0 8 (feed Loaded Jammed 1 0) (ring 3 4)) (report (Bytes (71 ∷ []))) 501 refl
+    ∷ keeps "Bytes 501 in Erred" (faulty (settings 1 0) (feed Stuck Jammed 0 1)) (report (Bytes (71 ∷ []))) 501 refl
+    ∷ keeps "Bytes 501 comes before 603" (clearing 0 (feed Loaded Jammed 1 0) (ring 3 4)) (report (Bytes (71 ∷ 72 ∷ []))) 501 refl
+    ∷ keeps "empty Bytes outside Scanning is 501" (resting (settings 1 0) (feed Loaded Jammed 1 0)) (report (Bytes [])) 501 refl
+    ∷ case "a ring of 1 byte: Bytes of 1 taken"
+    (boxed (box (scanner Scanning Timeout) (job 41 41 77 13 0) (side 6 1 90) (settings 0 1) (feed Loaded Jammed 1 0) (ring 0 0)) (21 ∷ []))
+    (report (Bytes (71 ∷ [])))
+    (took 1 (71 ∷ []) (box (scanner Scanning Timeout) (job 41 41 77 0 0) (side 6 1 90) (settings 0 1) (feed Loaded Jammed 1 0) (ring 0 1))) refl
+    ∷ keeps "a ring of 1 byte: of 2 is 603"
+    (boxed (box (scanner Scanning Timeout) (job 41 41 77 13 0) (side 6 1 90) (settings 0 1) (feed Loaded Jammed 1 0) (ring 0 0)) (21 ∷ []))
+    (report (Bytes (71 ∷ 72 ∷ []))) 603 refl
+    ∷ case "a ring of 1 byte: a fetch comes round to its place"
+    (boxed (box (scanner Scanning Timeout) (job 41 41 77 13 0) (side 6 1 90) (settings 0 1) (feed Loaded Jammed 1 0) (ring 0 1)) (71 ∷ []))
+    (scan (Fetch J41-006 255 nine))
+    (out 0 (picture 1 false (71 ∷ [])) (box (scanner Scanning Timeout) (job 41 41 77 0 0) (side 6 1 90) (settings 0 1) (feed Loaded Jammed 1 0) (ring 0 0))
+    (71 ∷ []) (0xA5 ∷ 0x5A ∷ 0x06 ∷ 1 ∷ 71 ∷ 66 ∷ 67 ∷ 68 ∷ 69 ∷ [])) refl
+    ∷ []
+
+-- ---- Side ended: Busy becomes Unloaded, a positive SideCount falls by one, −1 stays; Finishing, quiet 0; the ring stays
+pub sideEnds : List (Case Outcome)
+unfolding final
+sideEnds =
+    case "from the feeder: Unloaded, 8 falls to 7, Finishing" (drawing 0 8 (ring 3 4)) (report SideEnded)
+    (done (box (scanner Finishing Timeout) (job 41 41 77 0 0) (side 6 7 90) (settings 1 0) (feed Unloaded Jammed 1 0) (ring 3 4))) refl
+    ∷ case "an asked stop waits for the last byte" (drawing 1 1 (ring 3 4)) (report SideEnded)
+    (done (box (scanner Finishing Timeout) (job 41 41 77 0 1) (side 6 0 90) (settings 1 0) (feed Unloaded Jammed 1 0) (ring 3 4))) refl
+    ∷ case "SideCount −1 stays −1" (drawing 0 minusOne (ring 3 4)) (report SideEnded)
+    (done (box (scanner Finishing Timeout) (job 41 41 77 0 0) (side 6 minusOne 90) (settings 1 0) (feed Unloaded Jammed 1 0) (ring 3 4))) refl
+    ∷ case "on the glass: 1 falls to 0, the feeder stays Loaded" (copying 0 (feed Loaded Jammed 1 0) (ring 3 4)) (report SideEnded)
+    (done (box (scanner Finishing Timeout) (job 41 41 77 0 0) (side 6 0 90) (settings 0 1) (feed Loaded Jammed 1 0) (ring 3 4))) refl
+    ∷ case "on the glass: the feeder stays Erred" (copying 1 (feed Stuck Jammed 0 1) (ring 3 4)) (report SideEnded)
+    (done (box (scanner Finishing Timeout) (job 41 41 77 0 1) (side 6 0 90) (settings 0 1) (feed Stuck Jammed 0 1) (ring 3 4))) refl
+    ∷ case "the ring empty, SideCount falls to 0: Pending" (drawing 0 1 (ring 3 0)) (report SideEnded)
+    (done (box (scanner Pending Timeout) (job 41 41 77 0 0) (side 7 0 90) (settings 1 0) (feed Unloaded Jammed 1 0) (ring 3 0))) refl
+    ∷ case "the ring empty, on the glass: Pending, the feeder stays Loaded" (copying 0 (feed Loaded Timeout 1 0) (ring 3 0)) (report SideEnded)
+    (done (box (scanner Pending Timeout) (job 41 41 77 0 0) (side 7 0 90) (settings 0 1) (feed Loaded Timeout 1 0) (ring 3 0))) refl
+    ∷ case "the ring empty, a sheet in the tray: a side begins" (drawing 0 8 (ring 3 0)) (report SideEnded)
+    (done (box (scanner Scanning Timeout) (job 41 41 77 0 0) (side 7 7 91) (settings 1 0) (feed Busy Jammed 1 0) (ring 3 0))) refl
+    ∷ case "the ring empty, −1: a side begins, −1 stays" (drawing 0 minusOne (ring 3 0)) (report SideEnded)
+    (done (box (scanner Scanning Timeout) (job 41 41 77 0 0) (side 7 minusOne 91) (settings 1 0) (feed Busy Jammed 1 0) (ring 3 0))) refl
+    ∷ case "the ring empty, a stop asked: end of job" (drawing 1 8 (ring 3 0)) (report SideEnded)
+    (done (box (scanner Idle None) (job 0 41 77 0 0) (side 1 0 90) (settings 1 0) (feed Unloaded Jammed 1 0) (ring 0 0))) refl
+    ∷ case "the ring empty, a stop asked on the glass: end of job" (copying 1 (feed Loaded Jammed 1 0) (ring 3 0)) (report SideEnded)
+    (done (box (scanner Idle None) (job 0 41 77 0 0) (side 1 0 90) (settings 0 1) (feed Loaded Jammed 1 0) (ring 0 0))) refl
+    ∷ case "the ring empty, no sheet: Pending, SideCount 7 kept" (drawingLast 0 8 (ring 3 0)) (report SideEnded)
+    (done (box (scanner Pending Timeout) (job 41 41 77 0 0) (side 7 7 90) (settings 1 0) (feed Unloaded Jammed 0 0) (ring 3 0))) refl
+    ∷ case "the ring empty, no sheet: Pending, SideCount 0 where it was −1" (drawingLast 0 minusOne (ring 3 0)) (report SideEnded)
+    (done (box (scanner Pending Timeout) (job 41 41 77 0 0) (side 7 0 90) (settings 1 0) (feed Unloaded Jammed 0 0) (ring 3 0))) refl
+    ∷ keeps "Side ended 501 in Idle" (resting (settings 1 0) (feed Loaded Jammed 1 0)) (report SideEnded) 501 refl
+    ∷ keeps "Side ended 501 in Pending" (holding (settings 1 0) (feed Loaded Jammed 1 0)) (report SideEnded) 501 refl
+    ∷ keeps "Side ended 501 in Finishing" (draining 0 8 (feed Loaded Jammed 1 0) (ring 3 4)) (report SideEnded) 501 refl
+    ∷ keeps "Side ended 501 in Erred" (faulty (settings 1 0) (feed Stuck Jammed 0 1)) (report SideEnded) 501 refl
+    ∷ []
+
+-- ---- Tray sets MorePages. Path 0 sets the sensor only; 1 also makes the feeder Erred, Jammed
+pub sensorReports : List (Case Outcome)
+unfolding final
+sensorReports =
+    case "Tray 0" (resting (settings 1 0) (feed Loaded Jammed 1 0)) (report (Tray 0))
+    (done (box (scanner Idle Timeout) (job 0 41 77 0 0) (side 1 0 90) (settings 1 0) (feed Loaded Jammed 0 0) (ring 3 0))) refl
+    ∷ case "Tray 1: a jam stays" (faulty (settings 1 0) (feed Stuck Timeout 0 1)) (report (Tray 1))
+    (done (box (scanner Erred Timeout) (job 41 41 77 13 0) (side 6 8 90) (settings 1 0) (feed Stuck Timeout 1 1) (ring 3 0))) refl
+    ∷ case "Tray 1 in Scanning: quiet stays" (drawingLast 1 8 (ring 3 4)) (report (Tray 1))
+    (done (box (scanner Scanning Timeout) (job 41 41 77 13 1) (side 6 8 90) (settings 1 0) (feed Busy Jammed 1 0) (ring 3 4))) refl
+    ∷ keeps "Tray 601" (resting (settings 1 0) (feed Loaded Jammed 1 0)) (report (Tray 2)) 601 refl
+    ∷ case "Path 0: the sensor only" (faulty (settings 1 0) (feed Stuck Timeout 1 1)) (report (Path 0))
+    (done (box (scanner Erred Timeout) (job 41 41 77 13 0) (side 6 8 90) (settings 1 0) (feed Stuck Timeout 1 0) (ring 3 0))) refl
+    ∷ case "Path 0 in Scanning: nothing changes" (drawing 1 8 (ring 3 4)) (report (Path 0))
+    (done (box (scanner Scanning Timeout) (job 41 41 77 13 1) (side 6 8 90) (settings 1 0) (feed Busy Jammed 1 0) (ring 3 4))) refl
+    ∷ case "Path 0 in Idle" (resting (settings 1 0) (feed Stuck Jammed 0 1)) (report (Path 0))
+    (done (box (scanner Idle Timeout) (job 0 41 77 0 0) (side 1 0 90) (settings 1 0) (feed Stuck Jammed 0 0) (ring 3 0))) refl
+    ∷ case "Path 1 in Scanning from the feeder: Erred, Jammed, ring emptied, the stop forgotten, quiet 0" (drawing 1 8 (ring 3 4)) (report (Path 1))
+    (done (box (scanner Erred Jammed) (job 41 41 77 0 0) (side 6 8 90) (settings 1 0) (feed Stuck Jammed 1 1) (ring 0 0))) refl
+    ∷ case "Path 1 in Scanning from the feeder, no stop asked, tray empty" (drawingLast 0 minusOne (ring 3 0)) (report (Path 1))
+    (done (box (scanner Erred Jammed) (job 41 41 77 0 0) (side 6 minusOne 90) (settings 1 0) (feed Stuck Jammed 0 1) (ring 0 0))) refl
+    ∷ case "Path 1 on the glass leaves the scan" (copying 1 (feed Loaded Timeout 1 0) (ring 3 4)) (report (Path 1))
+    (done (box (scanner Scanning Timeout) (job 41 41 77 13 1) (side 6 1 90) (settings 0 1) (feed Stuck Jammed 1 1) (ring 3 4))) refl
+    ∷ case "Path 1 in Idle" (resting (settings 1 0) (feed Unloaded None 0 0)) (report (Path 1))
+    (done (box (scanner Idle Timeout) (job 0 41 77 0 0) (side 1 0 90) (settings 1 0) (feed Stuck Jammed 0 1) (ring 3 0))) refl
+    ∷ case "Path 1 in Pending: quiet stays" (holding (settings 1 0) (feed Loaded Timeout 1 0)) (report (Path 1))
+    (done (box (scanner Pending Timeout) (job 41 41 77 13 0) (side 6 8 90) (settings 1 0) (feed Stuck Jammed 1 1) (ring 3 0))) refl
+    ∷ case "Path 1 in Finishing from the feeder leaves the scan" (draining 1 8 (feed Loaded Timeout 1 0) (ring 3 4)) (report (Path 1))
+    (done (box (scanner Finishing Timeout) (job 41 41 77 13 1) (side 6 8 90) (settings 1 0) (feed Stuck Jammed 1 1) (ring 3 4))) refl
+    ∷ case "Path 1 in Erred: quiet stays" (faulty (settings 1 0) (feed Loaded Timeout 1 0)) (report (Path 1))
+    (done (box (scanner Erred Timeout) (job 41 41 77 13 0) (side 6 8 90) (settings 1 0) (feed Stuck Jammed 1 1) (ring 3 0))) refl
+    ∷ case "Path 1 makes a feeder in Timeout Jammed" (resting (settings 1 0) (feed Stuck Timeout 1 0)) (report (Path 1))
+    (done (box (scanner Idle Timeout) (job 0 41 77 0 0) (side 1 0 90) (settings 1 0) (feed Stuck Jammed 1 1) (ring 3 0))) refl
+    ∷ keeps "Path 601" (resting (settings 1 0) (feed Loaded Jammed 1 0)) (report (Path 2)) 601 refl
+    ∷ keeps "Path 601 in Scanning" (drawing 1 8 (ring 3 4)) (report (Path 2)) 601 refl
+    ∷ []
+
+-- ---- Tick. Held: quiet plus 1; at granted (300 in Erred) the job ends, but FailureCode is Timeout and a Busy feeder becomes Erred, Timeout
+pub tickReports : List (Case Outcome)
+unfolding final
+tickReports =
+    case "Idle: nothing" (resting (settings 1 0) (feed Loaded Jammed 1 0)) (report Tick)
+    (done (box (scanner Idle Timeout) (job 0 41 77 0 0) (side 1 0 90) (settings 1 0) (feed Loaded Jammed 1 0) (ring 3 0))) refl
+    ∷ case "Pending: 13 goes to 14" (holding (settings 1 0) (feed Loaded Jammed 1 0)) (report Tick)
+    (done (box (scanner Pending Timeout) (job 41 41 77 14 0) (side 6 8 90) (settings 1 0) (feed Loaded Jammed 1 0) (ring 3 0))) refl
+    ∷ case "Pending: 75 of 77 holds" (at (box (scanner Pending Timeout) (job 41 41 77 75 0) (side 6 8 90) (settings 0 1) (feed Loaded Jammed 1 0) (ring 3 0)))
+    (report Tick)
+    (done (box (scanner Pending Timeout) (job 41 41 77 76 0) (side 6 8 90) (settings 0 1) (feed Loaded Jammed 1 0) (ring 3 0))) refl
+    ∷ case "Pending: 76 of 77 ends, the feeder stays Loaded"
+    (at (box (scanner Pending None) (job 41 41 77 76 0) (side 6 8 90) (settings 1 0) (feed Loaded Jammed 1 0) (ring 3 0))) (report Tick)
+    (done (box (scanner Idle Timeout) (job 0 41 77 0 0) (side 1 0 90) (settings 1 0) (feed Loaded Jammed 1 0) (ring 0 0))) refl
+    ∷ case "Pending: 76 of 77 ends, the feeder stays Unloaded"
+    (at (box (scanner Pending Jammed) (job 41 41 77 76 0) (side 6 8 90) (settings 0 1) (feed Unloaded Jammed 0 0) (ring 3 0))) (report Tick)
+    (done (box (scanner Idle Timeout) (job 0 41 77 0 0) (side 1 0 90) (settings 0 1) (feed Unloaded Jammed 0 0) (ring 0 0))) refl
+    ∷ case "Scanning from the feeder: 75 of 77 holds"
+    (at (box (scanner Scanning Timeout) (job 41 41 77 75 1) (side 6 8 90) (settings 1 0) (feed Busy Jammed 1 0) (ring 3 4))) (report Tick)
+    (done (box (scanner Scanning Timeout) (job 41 41 77 76 1) (side 6 8 90) (settings 1 0) (feed Busy Jammed 1 0) (ring 3 4))) refl
+    ∷ case "Scanning from the feeder: 76 of 77 ends, the feeder Erred, Timeout"
+    (at (box (scanner Scanning None) (job 41 41 77 76 1) (side 6 8 90) (settings 1 0) (feed Busy Jammed 1 0) (ring 3 4))) (report Tick)
+    (done (box (scanner Idle Timeout) (job 0 41 77 0 0) (side 1 0 90) (settings 1 0) (feed Stuck Timeout 1 0) (ring 0 0))) refl
+    ∷ case "the same with an empty tray"
+    (at (box (scanner Scanning None) (job 41 41 77 76 0) (side 6 minusOne 90) (settings 1 0) (feed Busy Jammed 0 0) (ring 3 0))) (report Tick)
+    (done (box (scanner Idle Timeout) (job 0 41 77 0 0) (side 1 0 90) (settings 1 0) (feed Stuck Timeout 0 0) (ring 0 0))) refl
+    ∷ case "Scanning on the glass: 75 of 77 holds"
+    (at (box (scanner Scanning Timeout) (job 41 41 77 75 0) (side 6 1 90) (settings 0 1) (feed Loaded Jammed 1 0) (ring 3 4))) (report Tick)
+    (done (box (scanner Scanning Timeout) (job 41 41 77 76 0) (side 6 1 90) (settings 0 1) (feed Loaded Jammed 1 0) (ring 3 4))) refl
+    ∷ case "Scanning on the glass: 76 of 77 ends, the feeder stays Loaded"
+    (at (box (scanner Scanning None) (job 41 41 77 76 1) (side 6 1 90) (settings 0 1) (feed Loaded Jammed 1 0) (ring 3 4))) (report Tick)
+    (done (box (scanner Idle Timeout) (job 0 41 77 0 0) (side 1 0 90) (settings 0 1) (feed Loaded Jammed 1 0) (ring 0 0))) refl
+    ∷ case "Scanning on the glass: 76 of 77 ends, a jam stays Jammed"
+    (at (box (scanner Scanning None) (job 41 41 77 76 0) (side 6 1 90) (settings 0 1) (feed Stuck Jammed 0 1) (ring 3 4))) (report Tick)
+    (done (box (scanner Idle Timeout) (job 0 41 77 0 0) (side 1 0 90) (settings 0 1) (feed Stuck Jammed 0 1) (ring 0 0))) refl
+    ∷ case "Finishing: 75 of 77 holds"
+    (at (box (scanner Finishing Timeout) (job 41 41 77 75 0) (side 6 8 90) (settings 1 0) (feed Loaded Jammed 1 0) (ring 3 4))) (report Tick)
+    (done (box (scanner Finishing Timeout) (job 41 41 77 76 0) (side 6 8 90) (settings 1 0) (feed Loaded Jammed 1 0) (ring 3 4))) refl
+    ∷ case "Finishing: 76 of 77 ends, the feeder stays Unloaded"
+    (at (box (scanner Finishing None) (job 41 41 77 76 1) (side 6 8 90) (settings 1 0) (feed Unloaded Jammed 1 0) (ring 3 4))) (report Tick)
+    (done (box (scanner Idle Timeout) (job 0 41 77 0 0) (side 1 0 90) (settings 1 0) (feed Unloaded Jammed 1 0) (ring 0 0))) refl
+    ∷ case "Finishing on the glass: 76 of 77 ends"
+    (at (box (scanner Finishing None) (job 41 41 77 76 0) (side 6 0 90) (settings 0 1) (feed Stuck Jammed 1 0) (ring 3 4))) (report Tick)
+    (done (box (scanner Idle Timeout) (job 0 41 77 0 0) (side 1 0 90) (settings 0 1) (feed Stuck Jammed 1 0) (ring 0 0))) refl
+    ∷ case "in Erred 77 of 77 holds" (at (box (scanner Erred Jammed) (job 41 41 77 76 0) (side 6 8 90) (settings 1 0) (feed Stuck Jammed 0 1) (ring 3 0)))
+    (report Tick)
+    (done (box (scanner Erred Jammed) (job 41 41 77 77 0) (side 6 8 90) (settings 1 0) (feed Stuck Jammed 0 1) (ring 3 0))) refl
+    ∷ case "in Erred 299 quiet seconds hold the job"
+    (at (box (scanner Erred Jammed) (job 41 41 77 298 0) (side 6 8 90) (settings 1 0) (feed Stuck Jammed 0 1) (ring 3 0))) (report Tick)
+    (done (box (scanner Erred Jammed) (job 41 41 77 299 0) (side 6 8 90) (settings 1 0) (feed Stuck Jammed 0 1) (ring 3 0))) refl
+    ∷ case "in Erred the 300th ends it" (at (box (scanner Erred Jammed) (job 41 41 77 299 0) (side 6 8 90) (settings 1 0) (feed Stuck Jammed 0 1) (ring 3 0)))
+    (report Tick)
+    (done (box (scanner Idle Timeout) (job 0 41 77 0 0) (side 1 0 90) (settings 1 0) (feed Stuck Jammed 0 1) (ring 0 0))) refl
+    ∷ case "in Erred the 300th ends it, granted 600"
+    (at (box (scanner Erred Jammed) (job 41 41 600 299 0) (side 6 8 90) (settings 0 1) (feed Loaded Timeout 1 0) (ring 3 0))) (report Tick)
+    (done (box (scanner Idle Timeout) (job 0 41 600 0 0) (side 1 0 90) (settings 0 1) (feed Loaded Timeout 1 0) (ring 0 0))) refl
+    ∷ case "Scanning: granted 600, 300 holds"
+    (at (box (scanner Scanning Timeout) (job 41 41 600 299 0) (side 6 1 90) (settings 0 1) (feed Loaded Jammed 1 0) (ring 3 4))) (report Tick)
+    (done (box (scanner Scanning Timeout) (job 41 41 600 300 0) (side 6 1 90) (settings 0 1) (feed Loaded Jammed 1 0) (ring 3 4))) refl
+    ∷ case "Scanning: granted 600, the 600th ends it"
+    (at (box (scanner Scanning Timeout) (job 41 41 600 599 0) (side 6 1 90) (settings 0 1) (feed Loaded Jammed 1 0) (ring 3 4))) (report Tick)
+    (done (box (scanner Idle Timeout) (job 0 41 600 0 0) (side 1 0 90) (settings 0 1) (feed Loaded Jammed 1 0) (ring 0 0))) refl
+    ∷ case "granted 5: the fifth ends it"
+    (at (box (scanner Pending Timeout) (job 41 41 5 4 0) (side 6 8 90) (settings 1 0) (feed Loaded Jammed 1 0) (ring 3 0))) (report Tick)
+    (done (box (scanner Idle Timeout) (job 0 41 5 0 0) (side 1 0 90) (settings 1 0) (feed Loaded Jammed 1 0) (ring 0 0))) refl
+    ∷ []
+
+-- ---- Load: tray empty: 713 and Unloaded, from Loaded too. Else Loaded
+pub loadCalls : List (Case Outcome)
+unfolding final
+loadCalls =
+    case "Load from Unloaded" (resting (settings 1 0) (feed Unloaded Jammed 1 0)) (feeder (Load 0))
+    (done (box (scanner Idle Timeout) (job 0 41 77 0 0) (side 1 0 90) (settings 1 0) (feed Loaded Jammed 1 0) (ring 3 0))) refl
+    ∷ case "Load from Loaded" (resting (settings 0 1) (feed Loaded Timeout 1 0)) (feeder (Load 0))
+    (done (box (scanner Idle Timeout) (job 0 41 77 0 0) (side 1 0 90) (settings 0 1) (feed Loaded Timeout 1 0) (ring 3 0))) refl
+    ∷ case "Load in Pending: quiet stays" (holding (settings 1 0) (feed Unloaded Jammed 1 0)) (feeder (Load 41))
+    (done (box (scanner Pending Timeout) (job 41 41 77 13 0) (side 6 8 90) (settings 1 0) (feed Loaded Jammed 1 0) (ring 3 0))) refl
+    ∷ case "Load in Scanning on the glass" (copying 1 (feed Unloaded Jammed 1 0) (ring 3 4)) (feeder (Load 41))
+    (done (box (scanner Scanning Timeout) (job 41 41 77 13 1) (side 6 1 90) (settings 0 1) (feed Loaded Jammed 1 0) (ring 3 4))) refl
+    ∷ case "Load in Finishing" (draining 1 8 (feed Unloaded Jammed 1 0) (ring 3 4)) (feeder (Load 41))
+    (done (box (scanner Finishing Timeout) (job 41 41 77 13 1) (side 6 8 90) (settings 1 0) (feed Loaded Jammed 1 0) (ring 3 4))) refl
+    ∷ case "Load in Erred" (faulty (settings 1 0) (feed Unloaded Jammed 1 0)) (feeder (Load 41))
+    (done (box (scanner Erred Timeout) (job 41 41 77 13 0) (side 6 8 90) (settings 1 0) (feed Loaded Jammed 1 0) (ring 3 0))) refl
+    ∷ keeps "Load 713 from Unloaded" (resting (settings 1 0) (feed Unloaded Jammed 0 0)) (feeder (Load 0)) 713 refl
+    ∷ case "Load 713 from Loaded in Pending: quiet stays" (holding (settings 1 0) (feed Loaded Jammed 0 0)) (feeder (Load 41))
+    (out 713 nothing (box (scanner Pending Timeout) (job 41 41 77 13 0) (side 6 8 90) (settings 1 0) (feed Unloaded Jammed 0 0) (ring 3 0)) five []) refl
+    ∷ case "Load 713 from Loaded in Finishing" (draining 1 8 (feed Loaded Timeout 0 0) (ring 3 4)) (feeder (Load 41))
+    (out 713 nothing (box (scanner Finishing Timeout) (job 41 41 77 13 1) (side 6 8 90) (settings 1 0) (feed Unloaded Timeout 0 0) (ring 3 4)) five []) refl
+    ∷ keeps "Load 712 in Idle: the last number given" (resting (settings 1 0) (feed Loaded Jammed 1 0)) (feeder (Load 41)) 712 refl
+    ∷ keeps "Load 712, another job" (holding (settings 1 0) (feed Unloaded Jammed 1 0)) (feeder (Load 42)) 712 refl
+    ∷ keeps "Load 712 comes before 501" (drawing 0 8 (ring 3 4)) (feeder (Load 42)) 712 refl
+    ∷ keeps "Load 712 comes before 711" (resting (settings 1 0) (feed Stuck Jammed 0 1)) (feeder (Load 42)) 712 refl
+    ∷ keeps "Load 712 comes before 713: Loaded stays" (resting (settings 1 0) (feed Loaded Jammed 0 0)) (feeder (Load 42)) 712 refl
+    ∷ keeps "Load 501" (drawing 0 8 (ring 3 4)) (feeder (Load 41)) 501 refl
+    ∷ keeps "Load 501, tray empty" (drawingLast 0 8 (ring 3 4)) (feeder (Load 41)) 501 refl
+    ∷ keeps "Load 711" (resting (settings 1 0) (feed Stuck Jammed 0 1)) (feeder (Load 0)) 711 refl
+    ∷ keeps "Load 711, a sheet in the tray" (faulty (settings 1 0) (feed Stuck Jammed 1 0)) (feeder (Load 41)) 711 refl
+    ∷ []
+
+-- ---- Eject 0, 1 or 2 (2 is device-setting, here 1): Unloaded; 1 also sets MorePages to 0
+pub ejectCalls : List (Case Outcome)
+unfolding final
+ejectCalls =
+    case "Eject 0 from Loaded keeps MorePages" (resting (settings 1 0) (feed Loaded Jammed 1 0)) (feeder (Eject 0 0))
+    (done (box (scanner Idle Timeout) (job 0 41 77 0 0) (side 1 0 90) (settings 1 0) (feed Unloaded Jammed 1 0) (ring 3 0))) refl
+    ∷ case "Eject 1 from Loaded: MorePages 0" (resting (settings 1 0) (feed Loaded Jammed 1 0)) (feeder (Eject 0 1))
+    (done (box (scanner Idle Timeout) (job 0 41 77 0 0) (side 1 0 90) (settings 1 0) (feed Unloaded Jammed 0 0) (ring 3 0))) refl
+    ∷ case "Eject 2 from Loaded is Eject 1" (resting (settings 1 0) (feed Loaded Jammed 1 0)) (feeder (Eject 0 2))
+    (done (box (scanner Idle Timeout) (job 0 41 77 0 0) (side 1 0 90) (settings 1 0) (feed Unloaded Jammed 0 0) (ring 3 0))) refl
+    ∷ case "Eject 0 from Unloaded" (holding (settings 1 0) (feed Unloaded Jammed 1 0)) (feeder (Eject 41 0))
+    (done (box (scanner Pending Timeout) (job 41 41 77 13 0) (side 6 8 90) (settings 1 0) (feed Unloaded Jammed 1 0) (ring 3 0))) refl
+    ∷ case "Eject 1 from Unloaded" (copying 1 (feed Unloaded Jammed 1 0) (ring 3 4)) (feeder (Eject 41 1))
+    (done (box (scanner Scanning Timeout) (job 41 41 77 13 1) (side 6 1 90) (settings 0 1) (feed Unloaded Jammed 0 0) (ring 3 4))) refl
+    ∷ case "Eject 0 with an empty tray" (draining 1 8 (feed Loaded Jammed 0 0) (ring 3 4)) (feeder (Eject 41 0))
+    (done (box (scanner Finishing Timeout) (job 41 41 77 13 1) (side 6 8 90) (settings 1 0) (feed Unloaded Jammed 0 0) (ring 3 4))) refl
+    ∷ case "Eject 1 in Erred: quiet stays" (faulty (settings 1 0) (feed Loaded Timeout 1 0)) (feeder (Eject 41 1))
+    (done (box (scanner Erred Timeout) (job 41 41 77 13 0) (side 6 8 90) (settings 1 0) (feed Unloaded Timeout 0 0) (ring 3 0))) refl
+    ∷ keeps "Eject 601" (resting (settings 1 0) (feed Loaded Jammed 1 0)) (feeder (Eject 0 3)) 601 refl
+    ∷ keeps "Eject 601 comes before 712" (resting (settings 1 0) (feed Loaded Jammed 1 0)) (feeder (Eject 42 3)) 601 refl
+    ∷ keeps "Eject 712 in Idle: the last number given" (resting (settings 1 0) (feed Loaded Jammed 1 0)) (feeder (Eject 41 1)) 712 refl
+    ∷ keeps "Eject 712 while held: 0" (holding (settings 1 0) (feed Loaded Jammed 1 0)) (feeder (Eject 0 1)) 712 refl
+    ∷ keeps "Eject 712 comes before 501" (drawing 0 8 (ring 3 4)) (feeder (Eject 42 1)) 712 refl
+    ∷ keeps "Eject 712 comes before 711" (resting (settings 1 0) (feed Stuck Jammed 0 1)) (feeder (Eject 42 1)) 712 refl
+    ∷ keeps "Eject 501" (drawing 0 8 (ring 3 4)) (feeder (Eject 41 1)) 501 refl
+    ∷ keeps "Eject 711" (resting (settings 1 0) (feed Stuck Jammed 0 1)) (feeder (Eject 0 1)) 711 refl
+    ∷ keeps "Eject 711, path 0" (faulty (settings 1 0) (feed Stuck Jammed 1 0)) (feeder (Eject 41 0)) 711 refl
+    ∷ []
+
+-- ---- Reset: Erred with path sensor 0 becomes Unloaded, none. Otherwise accepted, nothing changes
+pub resetCalls : List (Case Outcome)
+unfolding final
+resetCalls =
+    case "Reset, path 0: Unloaded, none; MorePages stays 1" (resting (settings 1 0) (feed Stuck Jammed 1 0)) (feeder (Reset 0))
+    (done (box (scanner Idle Timeout) (job 0 41 77 0 0) (side 1 0 90) (settings 1 0) (feed Unloaded None 1 0) (ring 3 0))) refl
+    ∷ case "Reset, path 0, tray empty; the scanner stays Erred" (faulty (settings 1 0) (feed Stuck Timeout 0 0)) (feeder (Reset 41))
+    (done (box (scanner Erred Timeout) (job 41 41 77 13 0) (side 6 8 90) (settings 1 0) (feed Unloaded None 0 0) (ring 3 0))) refl
+    ∷ case "Reset, path 1: nothing changes" (faulty (settings 1 0) (feed Stuck Jammed 0 1)) (feeder (Reset 41))
+    (done (box (scanner Erred Timeout) (job 41 41 77 13 0) (side 6 8 90) (settings 1 0) (feed Stuck Jammed 0 1) (ring 3 0))) refl
+    ∷ case "Reset from Loaded: nothing changes" (resting (settings 1 0) (feed Loaded Jammed 1 0)) (feeder (Reset 0))
+    (done (box (scanner Idle Timeout) (job 0 41 77 0 0) (side 1 0 90) (settings 1 0) (feed Loaded Jammed 1 0) (ring 3 0))) refl
+    ∷ case "Reset from Unloaded: nothing changes" (draining 1 8 (feed Unloaded Jammed 0 0) (ring 3 4)) (feeder (Reset 41))
+    (done (box (scanner Finishing Timeout) (job 41 41 77 13 1) (side 6 8 90) (settings 1 0) (feed Unloaded Jammed 0 0) (ring 3 4))) refl
+    ∷ keeps "Reset 712 in Idle: the last number given" (resting (settings 1 0) (feed Loaded Jammed 1 0)) (feeder (Reset 41)) 712 refl
+    ∷ keeps "Reset 712 while held: 0" (holding (settings 1 0) (feed Stuck Jammed 1 0)) (feeder (Reset 0)) 712 refl
+    ∷ keeps "Reset 712 comes before 501" (drawing 0 8 (ring 3 4)) (feeder (Reset 42)) 712 refl
+    ∷ keeps "Reset 501" (drawing 0 8 (ring 3 4)) (feeder (Reset 41)) 501 refl
+    ∷ []
+
+-- ---- SetFeederMode: 0, Simplex, while Unloaded. GetFeederMode and GetState as they read
+pub modeCalls : List (Case Outcome)
+unfolding final
+modeCalls =
+    case "SetFeederMode in Idle" (resting (settings 1 0) (feed Unloaded Jammed 1 0)) (feeder (SetFeederMode 0 0))
+    (done (box (scanner Idle Timeout) (job 0 41 77 0 0) (side 1 0 90) (settings 1 0) (feed Unloaded Jammed 1 0) (ring 3 0))) refl
+    ∷ case "SetFeederMode in Scanning on the glass" (copying 1 (feed Unloaded Jammed 0 0) (ring 3 4)) (feeder (SetFeederMode 41 0))
+    (done (box (scanner Scanning Timeout) (job 41 41 77 13 1) (side 6 1 90) (settings 0 1) (feed Unloaded Jammed 0 0) (ring 3 4))) refl
+    ∷ keeps "SetFeederMode 601" (resting (settings 1 0) (feed Unloaded Jammed 1 0)) (feeder (SetFeederMode 0 1)) 601 refl
+    ∷ keeps "SetFeederMode 601 comes before 712" (resting (settings 1 0) (feed Unloaded Jammed 1 0)) (feeder (SetFeederMode 42 2)) 601 refl
+    ∷ keeps "SetFeederMode 712 in Idle: the last number given" (resting (settings 1 0) (feed Unloaded Jammed 1 0)) (feeder (SetFeederMode 41 0)) 712 refl
+    ∷ keeps "SetFeederMode 712 while held: 0" (holding (settings 1 0) (feed Unloaded Jammed 1 0)) (feeder (SetFeederMode 0 0)) 712 refl
+    ∷ keeps "SetFeederMode 712 comes before 501" (drawing 0 8 (ring 3 4)) (feeder (SetFeederMode 42 0)) 712 refl
+    ∷ keeps "SetFeederMode 501 from Loaded" (resting (settings 1 0) (feed Loaded Jammed 1 0)) (feeder (SetFeederMode 0 0)) 501 refl
+    ∷ keeps "SetFeederMode 501 from Busy" (drawing 0 8 (ring 3 4)) (feeder (SetFeederMode 41 0)) 501 refl
+    ∷ keeps "SetFeederMode on an Erred feeder is 501" (resting (settings 1 0) (feed Stuck Jammed 0 1)) (feeder (SetFeederMode 0 0)) 501 refl
+    ∷ case "feeder GetState: Unloaded" (draining 1 8 (feed Unloaded None 0 0) (ring 3 4)) (feeder GetFeederState)
+    (told (feeding Unloaded 0 None) (box (scanner Finishing Timeout) (job 41 41 77 13 1) (side 6 8 90) (settings 1 0) (feed Unloaded None 0 0) (ring 3 4)))
+    refl
+    ∷ case "feeder GetState: Loaded" (resting (settings 1 0) (feed Loaded Jammed 1 0)) (feeder GetFeederState)
+    (told (feeding Loaded 1 Jammed) (box (scanner Idle Timeout) (job 0 41 77 0 0) (side 1 0 90) (settings 1 0) (feed Loaded Jammed 1 0) (ring 3 0))) refl
+    ∷ case "feeder GetState: Busy" (drawing 0 8 (ring 3 4)) (feeder GetFeederState)
+    (told (feeding Busy 1 Jammed) (box (scanner Scanning Timeout) (job 41 41 77 13 0) (side 6 8 90) (settings 1 0) (feed Busy Jammed 1 0) (ring 3 4))) refl
+    ∷ case "feeder GetState: Erred" (faulty (settings 1 0) (feed Stuck Timeout 0 1)) (feeder GetFeederState)
+    (told (feeding Stuck 0 Timeout) (box (scanner Erred Timeout) (job 41 41 77 13 0) (side 6 8 90) (settings 1 0) (feed Stuck Timeout 0 1) (ring 3 0))) refl
+    ∷ case "GetFeederMode: Simplex" (resting (settings 1 0) (feed Stuck Jammed 0 1)) (feeder GetFeederMode)
+    (told (mode 0) (box (scanner Idle Timeout) (job 0 41 77 0 0) (side 1 0 90) (settings 1 0) (feed Stuck Jammed 0 1) (ring 3 0))) refl
     ∷ []
 
 -- ---- where a builder slips
-abbrev pub slips : List Case
+pub slips : List (Case Outcome)
+unfolding final
 slips =
-    within "Stop does not set quiet to 0, it asks" box (feedingOf 1 ++ ticks 3) (scan (Stop 1)) (inside 3 1 1 None None 1 0 0 0)
-    ∷ within "Load does not set quiet to 0" box (report (Tray 1) ∷ holding ++ ticks 3) (feeder (Load 1)) (inside 3 0 0 None None 1 0 0 0)
-    ∷ within "an empty fetch does not set quiet to 0" box (holding ++ ticks 3) fetch (inside 3 0 0 None None 0 0 0 0)
-    ∷ within "empty Bytes do not set quiet to 0" box (glass ++ ticks 3) (report (Bytes [])) (inside 3 0 1 None None 0 0 0 0)
-    ∷ within "another job's Stop does not set quiet to 0" box (glass ++ ticks 3) (scan (Stop 2)) (inside 3 0 1 None None 0 0 0 0)
-    ∷ case "Load's 713 is a move of the feeder" box (report (Tray 1) ∷ feeder (Load 0) ∷ report (Tray 0) ∷ feeder (Load 0) ∷ []) (scan (StartScan 1 1 1 0))
-    (line 713 Idle Unloaded 0 1 0 [])
-    ∷ case "StartScan's 713 is none" box (feeder (Load 0) ∷ []) (scan (StartScan 1 1 1 0)) (line 713 Idle Unloaded 0 1 0 [])
-    ∷ case "SideCount −1 stays −1" box (feedingOf endless) (report SideEnded) (line 0 Scanning Busy 1 2 endless [])
-    ∷ within "no ring bytes after Abort" box filling (scan (Abort 1)) (inside 0 0 1 None None 1 0 0 0)
-    ∷ within "no ring bytes, no stop after a jam" box (filling ++ scan (Stop 1) ∷ []) (report (Path 1)) (inside 0 0 1 Jammed Jammed 1 1 0 0)
-    ∷ case "a Busy feeder is free at end of job" box filling (scan (Abort 1)) (line 0 Idle Unloaded 0 1 0 [])
+    after "Load's 713 is a move of the feeder" (resting (settings 1 0) (feed Loaded Jammed 0 0)) (feeder (Load 0) ∷ []) (scan (StartScan 1 7 1 123))
+    (out 713 nothing (box (scanner Idle Timeout) (job 0 41 77 0 0) (side 1 0 90) (settings 1 0) (feed Unloaded Jammed 0 0) (ring 3 0)) five []) refl
+    ∷ after "StartScan's 713 is none" (resting (settings 1 0) (feed Unloaded Jammed 0 0)) (scan (StartScan 1 7 1 123) ∷ report (Tray 1) ∷ [])
+    (scan (StartScan 1 7 1 123))
+    (told (time 123) (box (scanner Scanning None) (job 42 42 123 0 0) (side 1 7 91) (settings 1 1) (feed Busy Jammed 1 0) (ring 3 0))) refl
+    ∷ after "the right number puts off nothing"
+    (at (box (scanner Pending Timeout) (job 41 41 77 75 0) (side 6 8 90) (settings 1 0) (feed Loaded Jammed 1 0) (ring 3 0)))
+    (report Tick ∷ feeder (Load 41) ∷ scan (Fetch J41 255 nine) ∷ feeder (Eject 41 0) ∷ feeder (Reset 41) ∷ feeder (SetFeederMode 41 0) ∷ report (Tray 0) ∷ [])
+    (report Tick)
+    (done (box (scanner Idle Timeout) (job 0 41 77 0 0) (side 1 0 90) (settings 1 0) (feed Unloaded Jammed 0 0) (ring 0 0))) refl
+    ∷ after "nor does a stop that is asked twice"
+    (at (box (scanner Scanning Timeout) (job 41 41 77 75 0) (side 6 8 90) (settings 1 0) (feed Busy Jammed 1 0) (ring 3 4)))
+    (scan (Stop 41) ∷ report Tick ∷ scan (Stop 41) ∷ []) (report Tick)
+    (done (box (scanner Idle Timeout) (job 0 41 77 0 0) (side 1 0 90) (settings 1 0) (feed Stuck Timeout 1 0) (ring 0 0))) refl
+    ∷ after "no ring bytes after Abort" (drawing 0 8 (ring 3 4)) (scan (Abort 41) ∷ scan (StartScan 0 1 0 123) ∷ []) (scan (Fetch J42 255 nine))
+    (sent 0 false [] (65 ∷ 66 ∷ 67 ∷ 68 ∷ 69 ∷ [])
+    (box (scanner Scanning None) (job 42 42 123 0 0) (side 1 1 91) (settings 0 0) (feed Unloaded Jammed 1 0) (ring 0 0))) refl
+    ∷ after "no ring bytes after a jam" (drawing 0 8 (ring 3 4)) (report (Path 1) ∷ scan (Start 41 0 1) ∷ []) (scan (Fetch J41 255 nine))
+    (sent 0 false [] (65 ∷ 66 ∷ 67 ∷ 68 ∷ 69 ∷ [])
+    (box (scanner Scanning None) (job 41 41 77 0 0) (side 6 1 91) (settings 0 0) (feed Stuck Jammed 1 1) (ring 0 0))) refl
+    ∷ after "−1 stays −1, side after side" (drawing 0 minusOne (ring 3 0)) (report SideEnded ∷ report SideEnded ∷ []) (report SideEnded)
+    (done (box (scanner Scanning Timeout) (job 41 41 77 0 0) (side 9 minusOne 93) (settings 1 0) (feed Busy Jammed 1 0) (ring 3 0))) refl
     ∷ []
 
--- ---- one for each reason number of each call
-abbrev pub refusing : List Case
-refusing =
-    case "StartScan 601, UseFeeder" box [] (scan (StartScan 3 0 1 0)) (line 601 Idle Unloaded 0 1 0 [])
-    ∷ case "StartScan 601, Append" box [] (scan (StartScan 0 0 3 0)) (line 601 Idle Unloaded 0 1 0 [])
-    ∷ case "StartScan 501" box holding (scan (StartScan 0 0 1 0)) (line 501 Pending Unloaded 1 1 0 [])
-    ∷ case "StartScan 711" box (report (Path 1) ∷ []) (scan (StartScan 1 1 1 0)) (line 711 Idle Stuck 0 1 0 [])
-    ∷ case "StartScan 713" box [] (scan (StartScan 1 1 1 0)) (line 713 Idle Unloaded 0 1 0 [])
-    ∷ case "Start 601" box holding (scan (Start 2 3 0)) (line 601 Pending Unloaded 1 1 0 [])
-    ∷ case "Start 712" box glass (scan (Start 2 0 0)) (line 712 Scanning Unloaded 1 1 1 [])
-    ∷ case "Start 712 in Idle" box [] (scan (Start 0 0 0)) (line 712 Idle Unloaded 0 1 0 [])
-    ∷ case "Start 501" box (glass ++ report (Path 1) ∷ []) (scan (Start 1 1 1)) (line 501 Scanning Stuck 1 1 1 [])
-    ∷ case "Start 711" box (holding ++ report (Path 1) ∷ []) (scan (Start 1 1 1)) (line 711 Pending Stuck 1 1 0 [])
-    ∷ case "Start 713" box holding (scan (Start 1 1 1)) (line 713 Pending Unloaded 1 1 0 [])
-    ∷ case "Stop 712" box holding (scan (Stop 2)) (line 712 Pending Unloaded 1 1 0 [])
-    ∷ case "Stop 712 in Idle" box [] (scan (Stop 0)) (line 712 Idle Unloaded 0 1 0 [])
-    ∷ case "Abort 712" box holding (scan (Abort 2)) (line 712 Pending Unloaded 1 1 0 [])
-    ∷ case "Abort 712 in Idle" box [] (scan (Abort 0)) (line 712 Idle Unloaded 0 1 0 [])
-    ∷ case "GetDestination 712" box holding (scan (GetDestination 2)) (line 712 Pending Unloaded 1 1 0 [])
-    ∷ case "GetDestination 712 in Idle" box [] (scan (GetDestination 0)) (line 712 Idle Unloaded 0 1 0 [])
-    ∷ case "Fetch 404" box holding (scan (Fetch [] 8 [])) (line 404 Pending Unloaded 1 1 0 [])
-    ∷ case "Fetch 404 in Idle" box (holding ++ scan (Abort 1) ∷ []) fetch (line 404 Idle Unloaded 0 1 0 [])
-    ∷ case "Fetch 603" box filling (scan (Fetch name1 8 (0 ∷ 0 ∷ 0 ∷ []))) (line 603 Scanning Busy 1 1 1 [])
-    ∷ case "Load 712" box [] (feeder (Load 1)) (line 712 Idle Unloaded 0 1 0 [])
-    ∷ case "Load 501" box (feedingOf 1) (feeder (Load 1)) (line 501 Scanning Busy 1 1 1 [])
-    ∷ case "Load 711" box (report (Path 1) ∷ []) (feeder (Load 0)) (line 711 Idle Stuck 0 1 0 [])
-    ∷ case "Load 713" box [] (feeder (Load 0)) (line 713 Idle Unloaded 0 1 0 [])
-    ∷ case "Eject 601" box [] (feeder (Eject 1 3)) (line 601 Idle Unloaded 0 1 0 [])
-    ∷ case "Eject 712" box [] (feeder (Eject 1 0)) (line 712 Idle Unloaded 0 1 0 [])
-    ∷ case "Eject 501" box (feedingOf 1) (feeder (Eject 1 0)) (line 501 Scanning Busy 1 1 1 [])
-    ∷ case "Eject 711" box (report (Path 1) ∷ []) (feeder (Eject 0 0)) (line 711 Idle Stuck 0 1 0 [])
-    ∷ case "Reset 712" box [] (feeder (Reset 1)) (line 712 Idle Unloaded 0 1 0 [])
-    ∷ case "712 comes before 501" box (feedingOf 1) (feeder (Reset 2)) (line 712 Scanning Busy 1 1 1 [])
-    ∷ case "Reset 501" box (feedingOf 1) (feeder (Reset 1)) (line 501 Scanning Busy 1 1 1 [])
-    ∷ case "SetFeederMode 601" box [] (feeder (SetFeederMode 1 1)) (line 601 Idle Unloaded 0 1 0 [])
-    ∷ case "SetFeederMode 712" box (feedingOf 1) (feeder (SetFeederMode 2 0)) (line 712 Scanning Busy 1 1 1 [])
-    ∷ case "SetFeederMode 501" box (feedingOf 1) (feeder (SetFeederMode 1 0)) (line 501 Scanning Busy 1 1 1 [])
-    ∷ case "Bytes 501" box holding (report (Bytes (1 ∷ []))) (line 501 Pending Unloaded 1 1 0 [])
-    ∷ case "Bytes 603" box filling (report (Bytes (1 ∷ 2 ∷ []))) (line 603 Scanning Busy 1 1 1 [])
-    ∷ case "Bytes that fill the ring" box filling (report (Bytes (1 ∷ []))) (line 0 Scanning Busy 1 1 1 (1 ∷ []))
-    ∷ ringed "refused Bytes write nothing" box filling (report (Bytes (1 ∷ 2 ∷ []))) (65 ∷ 66 ∷ 67 ∷ 0 ∷ [])
-    ∷ case "Side ended 501" box holding (report SideEnded) (line 501 Pending Unloaded 1 1 0 [])
-    ∷ case "Tray 601" box [] (report (Tray 2)) (line 601 Idle Unloaded 0 1 0 [])
-    ∷ case "Path 601" box [] (report (Path 2)) (line 601 Idle Unloaded 0 1 0 [])
-    ∷ []
-
--- 604 for every call, before its own numbers, and all as it was
-abbrev pub unsoundly : String → Call → Case
-unsoundly says c = case says unsound [] c (line 604 Idle Unloaded 0 1 0 [])
-
-abbrev pub every604 : List Case
+-- ---- 604 for every call, before its own numbers, and all as it was
+pub every604 : List (Case Outcome)
+unfolding final
 every604 =
-    unsoundly "StartScan 604" (scan (StartScan 3 0 1 0))
-    ∷ unsoundly "Start 604" (scan (Start 0 0 0))
-    ∷ unsoundly "Stop 604" (scan (Stop 0))
-    ∷ unsoundly "Abort 604" (scan (Abort 0))
-    ∷ unsoundly "GetDestination 604" (scan (GetDestination 0))
-    ∷ unsoundly "Fetch 604" fetch
-    ∷ unsoundly "GetState 604" (scan GetState)
-    ∷ unsoundly "GetSideInformation 604" (scan GetSideInformation)
-    ∷ unsoundly "Load 604" (feeder (Load 0))
-    ∷ unsoundly "Eject 604" (feeder (Eject 0 3))
-    ∷ unsoundly "Reset 604" (feeder (Reset 0))
-    ∷ unsoundly "SetFeederMode 604" (feeder (SetFeederMode 0 1))
-    ∷ unsoundly "feeder GetState 604" (feeder GetFeederState)
-    ∷ unsoundly "GetFeederMode 604" (feeder GetFeederMode)
-    ∷ unsoundly "Bytes 604" (report (Bytes []))
-    ∷ unsoundly "Side ended 604" (report SideEnded)
-    ∷ unsoundly "Tray 604" (report (Tray 2))
-    ∷ unsoundly "Path 604" (report (Path 2))
-    ∷ unsoundly "Tick 604" (report Tick)
+    keeps "StartScan 604" unsound (scan (StartScan 3 0 1 123)) 604 refl
+    ∷ keeps "Start 604" unsound (scan (Start 42 3 0)) 604 refl
+    ∷ keeps "Stop 604" unsound (scan (Stop 41)) 604 refl
+    ∷ keeps "Abort 604" unsound (scan (Abort 41)) 604 refl
+    ∷ keeps "GetDestination 604" unsound (scan (GetDestination 41)) 604 refl
+    ∷ case "Fetch 604" unsound (scan (Fetch J42 255 (61 ∷ 62 ∷ 63 ∷ [])))
+    (out 604 nothing (box (scanner Idle Timeout) (job 0 41 77 13 0) (side 1 0 90) (settings 1 0) (feed Loaded Jammed 1 0) (ring 3 0)) five
+    (61 ∷ 62 ∷ 63 ∷ [])) refl
+    ∷ keeps "GetState 604" unsound (scan GetState) 604 refl
+    ∷ keeps "GetSideInformation 604" unsound (scan GetSideInformation) 604 refl
+    ∷ keeps "Load 604" unsound (feeder (Load 41)) 604 refl
+    ∷ keeps "Eject 604" unsound (feeder (Eject 42 3)) 604 refl
+    ∷ keeps "Reset 604" unsound (feeder (Reset 41)) 604 refl
+    ∷ keeps "SetFeederMode 604" unsound (feeder (SetFeederMode 41 1)) 604 refl
+    ∷ keeps "feeder GetState 604" unsound (feeder GetFeederState) 604 refl
+    ∷ keeps "GetFeederMode 604" unsound (feeder GetFeederMode) 604 refl
+    ∷ keeps "Bytes 604" unsound (report (Bytes (71 ∷ []))) 604 refl
+    ∷ keeps "Side ended 604" unsound (report SideEnded) 604 refl
+    ∷ keeps "Tray 604" unsound (report (Tray 2)) 604 refl
+    ∷ keeps "Path 604" unsound (report (Path 2)) 604 refl
+    ∷ keeps "Tick 604" unsound (report Tick) 604 refl
     ∷ []
 
--- ---- sound: both sides of each test of the five points, with a ring of n bytes
-abbrev pub judged : String → ℕ → Record → Bool → Case
-judged says n r expected = record { says = says; right = exactly (sound r n) expected }
+-- every case of a call
+abbrev pub table : List (Case Outcome)
+table =
+    starred ++ startScans ++ startScansRefused ++ starts ++ startsRefused ++ stops ++ aborts ++ reads ++ fetches ++ fetchesRefused ++ drains ++ byteReports
+    ++ sideEnds ++ sensorReports ++ tickReports ++ loadCalls ++ ejectCalls ++ resetCalls ++ modeCalls ++ slips ++ every604
 
--- a job Pending; Scanning on the glass; Scanning from the feeder; Finishing from the feeder and on the glass, bytes stored; Erred
-abbrev pub after : List Call → Record
-after cs = run box cs .end .box
-
-abbrev pub held : Record
-held = after holding
-
-abbrev pub onGlass : Record
-onGlass = after glass
-
-abbrev pub fed : Record
-fed = after filling
-
-abbrev pub draining : Record
-draining = after (filling ++ report SideEnded ∷ [])
-
-abbrev pub drainingGlass : Record
-drainingGlass = after (glass ++ report (Bytes (65 ∷ [])) ∷ report SideEnded ∷ [])
-
-abbrev pub erring : Record
-erring = after jamming
-
--- one field of a part changed
-abbrev pub jobAt : ℕ → ℕ → ℕ → ℕ → Record → Record
-jobAt job given seconds quiet r =
-    withJob (record { held = job; last = given; granted = record { seconds = seconds }; quiet = quiet; stop = r .job .stop }) r
-
-abbrev pub sideAt : ℕ → ℕ → Record → Record
-sideAt number count r = withSide (record { number = number; count = count; destination = r .side .destination }) r
-
-abbrev pub settingsAt : ℕ → ℕ → Record → Record
-settingsAt from append r = withSettings (record { feeder = from; append = append }) r
-
-abbrev pub feederAt : Feed → ℕ → ℕ → Record → Record
-feederAt x tray path r = withFeeder (record { state = x; failure = None; tray = tray; path = path }) r
-
-abbrev pub ringAt : ℕ → ℕ → Record → Record
-ringAt from count r = withRing (record { start = from; stored = count }) r
-
-abbrev pub judgedJobs : List Case
-judgedJobs =
-    judged "fresh is sound" 4 fresh true
-    ∷ judged "Idle with a job is not" 4 (jobAt 1 1 60 0 fresh) false
-    ∷ judged "held with job 0 is not" 4 (jobAt 0 0 60 0 held) false
-    ∷ judged "Idle with SideNumber 0 is not" 4 (sideAt 0 0 fresh) false
-    ∷ judged "Idle with SideNumber 2 is not" 4 (sideAt 2 0 fresh) false
-    ∷ judged "Idle with SideCount 1 is not" 4 (sideAt 1 1 fresh) false
-    ∷ judged "Idle with quiet 1 is not" 4 (quietAt 1 fresh) false
-    ∷ judged "Idle with a stop asked is not" 4 (stopAt 1 fresh) false
-    ∷ judged "in Idle granted and the last number are free" 4 (jobAt 0 77 9999 0 fresh) true
-    ∷ judged "SideNumber 0 is sound" 4 (sideAt 0 0 held) true
-    ∷ judged "SideNumber 999 is sound" 4 (sideAt 999 0 held) true
-    ∷ judged "SideNumber 1000 is not" 4 (sideAt 1000 0 held) false
-    ∷ judged "SideCount 999 is sound" 4 (sideAt 1 999 held) true
-    ∷ judged "SideCount 1000 is not" 4 (sideAt 1 1000 held) false
-    ∷ judged "SideCount −1 is sound" 4 (sideAt 1 endless held) true
-    ∷ judged "SideCount −2 is not" 4 (sideAt 1 4294967294 held) false
-    ∷ judged "a job that is not the last number is not" 4 (jobAt 1 2 10 0 held) false
-    ∷ judged "granted 4 is not" 4 (jobAt 1 1 4 0 held) false
-    ∷ judged "granted 5 is sound" 4 (jobAt 1 1 5 0 held) true
-    ∷ judged "granted 600 is sound" 4 (jobAt 1 1 600 0 held) true
-    ∷ judged "granted 601 is not" 4 (jobAt 1 1 601 0 held) false
-    ∷ judged "quiet 9 of 10 is sound" 4 (jobAt 1 1 10 9 held) true
-    ∷ judged "quiet 10 of 10 is not" 4 (jobAt 1 1 10 10 held) false
-    ∷ judged "in Erred quiet 299 of 10 is sound" 4 (jobAt 1 1 10 299 erring) true
-    ∷ judged "in Erred quiet 300 of 600 is not" 4 (jobAt 1 1 600 300 erring) false
-    ∷ []
-
-abbrev pub judgedRings : List Case
-judgedRings =
-    judged "a ring of 0 bytes is not" 0 fresh false
-    ∷ judged "a ring of 1 byte is sound" 1 fresh true
-    ∷ judged "a ring of 65,536 bytes is sound" 65536 fresh true
-    ∷ judged "a ring of 65,537 bytes is not" 65537 fresh false
-    ∷ judged "start at the last place is sound" 4 (ringAt 3 0 held) true
-    ∷ judged "start past it is not" 4 (ringAt 4 0 held) false
-    ∷ judged "stored the whole ring is sound" 4 (ringAt 0 4 fed) true
-    ∷ judged "stored one more is not" 4 (ringAt 0 5 fed) false
-    ∷ judged "stored in Idle is not" 4 (ringAt 0 1 fresh) false
-    ∷ judged "stored in Pending is not" 4 (ringAt 0 1 held) false
-    ∷ judged "stored in Erred is not" 4 (ringAt 0 1 erring) false
-    ∷ judged "none stored in Scanning is sound" 4 (ringAt 0 0 fed) true
-    ∷ judged "one stored in Finishing is sound" 4 (ringAt 0 1 draining) true
-    ∷ judged "none stored in Finishing is not" 4 (ringAt 0 0 draining) false
-    ∷ []
-
-abbrev pub judgedFeeders : List Case
-judgedFeeders =
-    judged "Scanning from the feeder, not Busy, is not" 4 (feederAt Loaded 1 0 fed) false
-    ∷ judged "Busy in Idle is not" 4 (feederAt Busy 1 0 fresh) false
-    ∷ judged "Busy in Pending is not" 4 (feederAt Busy 1 0 held) false
-    ∷ judged "Busy in Finishing is not" 4 (feederAt Busy 1 0 draining) false
-    ∷ judged "Busy in Scanning on the glass is not" 4 (feederAt Busy 1 0 onGlass) false
-    ∷ judged "Busy with SideCount 0 is not" 4 (sideAt 1 0 fed) false
-    ∷ judged "Busy with SideCount −1 is sound" 4 (sideAt 1 endless fed) true
-    ∷ judged "Scanning on the glass with SideCount 1 is sound" 4 onGlass true
-    ∷ judged "Scanning on the glass with SideCount 0 is not" 4 (sideAt 1 0 onGlass) false
-    ∷ judged "Scanning on the glass with SideCount 2 is not" 4 (sideAt 1 2 onGlass) false
-    ∷ judged "Finishing on the glass with SideCount 0 is sound" 4 drainingGlass true
-    ∷ judged "Finishing on the glass with SideCount 1 is not" 4 (sideAt 1 1 drainingGlass) false
-    ∷ judged "Finishing from the feeder with SideCount 1 is sound" 4 (sideAt 1 1 draining) true
-    ∷ judged "UseFeeder 2 is not" 4 (settingsAt 2 1 fresh) false
-    ∷ judged "Append 2 is not" 4 (settingsAt 1 2 fresh) false
-    ∷ judged "settings 0 are sound" 4 (settingsAt 0 0 fresh) true
-    ∷ judged "a stop mark of 2 is not" 4 (stopAt 2 fed) false
-    ∷ judged "a tray sensor of 2 is not" 4 (feederAt Unloaded 2 0 fresh) false
-    ∷ judged "a path sensor of 2 is not" 4 (feederAt Stuck 0 2 fresh) false
-    ∷ judged "path 1 with the feeder Unloaded is not" 4 (feederAt Unloaded 0 1 fresh) false
-    ∷ judged "path 1 with the feeder Erred is sound" 4 (feederAt Stuck 0 1 fresh) true
-    ∷ judged "path 0 with the feeder Erred is sound" 4 (feederAt Stuck 0 0 fresh) true
-    ∷ judged "a stop asked in Scanning is sound" 4 (stopAt 1 fed) true
-    ∷ judged "a stop asked in Finishing is sound" 4 (stopAt 1 draining) true
-    ∷ judged "a stop asked in Pending is not" 4 (stopAt 1 held) false
-    ∷ judged "a stop asked in Erred is not" 4 (stopAt 1 erring) false
-    ∷ []
-
--- ---- readings that docs/DECISIONS.md keeps
-abbrev pub readings : List Case
-readings =
-    case "empty Bytes outside Scanning is 501" box [] (report (Bytes [])) (line 501 Idle Unloaded 0 1 0 [])
-    ∷ case "in Scanning accepted, the ring full" box (filling ++ report (Bytes (68 ∷ [])) ∷ []) (report (Bytes [])) (line 0 Scanning Busy 1 1 1 (0 ∷ []))
-    ∷ case "a fetch of the present name in Erred: k 0" box jamming fetch (line 0 Erred Stuck 1 1 1 (0 ∷ 0 ∷ []))
-    ∷ case "UseFeeder 2 is settled before 601 is judged, in Start too" box holding (scan (Start 1 2 2)) (line 601 Pending Unloaded 1 1 0 [])
-    ∷ within "the drain step's 711 leaves the ring's start" box
-    (report (Tray 1) ∷ scan (StartScan 1 2 1 0) ∷ report (Bytes (1 ∷ 2 ∷ [])) ∷ report SideEnded ∷ report (Path 1) ∷ [])
-    (scan (Fetch name1 8 reply))
-    (inside 0 0 1 Jammed Jammed 1 1 2 0)
-    ∷ case "and is not the fetch's own number" box
-    (report (Tray 1) ∷ scan (StartScan 1 2 1 0) ∷ report (Bytes (1 ∷ 2 ∷ [])) ∷ report SideEnded ∷ report (Path 1) ∷ [])
-    (scan (Fetch name1 8 reply))
-    (line 0 Erred Stuck 1 2 1 (2 ∷ 1 ∷ 1 ∷ 2 ∷ []))
-    ∷ case "nor is its 713: Pending, SideCount kept" box (feedingOf 2 ++ report (Tray 0) ∷ []) (report SideEnded) (line 0 Pending Unloaded 1 2 1 [])
-    ∷ case "or 0 where it was −1" box (feedingOf endless ++ report (Tray 0) ∷ []) (report SideEnded) (line 0 Pending Unloaded 1 2 0 [])
-    ∷ within "Path 1 makes a feeder in Timeout Jammed" box (feedingOf 1 ++ ticks 10) (report (Path 1)) (inside 0 0 1 Timeout Jammed 1 1 0 0)
-    ∷ case "Path 1 on the glass leaves the scan" box glass (report (Path 1)) (line 0 Scanning Stuck 1 1 1 [])
-    ∷ case "SetFeederMode on an Erred feeder is 501" box (report (Path 1) ∷ []) (feeder (SetFeederMode 0 0)) (line 501 Idle Stuck 0 1 0 [])
-    ∷ []
-
-abbrev pub table : List Case
-table = starred ++ edges ++ slips ++ refusing ++ every604 ++ judgedJobs ++ judgedRings ++ judgedFeeders ++ readings
-
-pub starred-hold : failing starred ≡ []
-unfolding failing final
-starred-hold = refl
-
-pub edges-hold : failing edges ≡ []
-unfolding failing final
-edges-hold = refl
-
-pub slips-hold : failing slips ≡ []
-unfolding failing final
-slips-hold = refl
-
-pub refusing-hold : failing refusing ≡ []
-unfolding failing final
-refusing-hold = refl
-
-pub every604-hold : failing every604 ≡ []
-unfolding failing final
-every604-hold = refl
-
-pub judgedJobs-hold : failing judgedJobs ≡ []
-unfolding failing final
-judgedJobs-hold = refl
-
-pub judgedRings-hold : failing judgedRings ≡ []
-unfolding failing final
-judgedRings-hold = refl
-
-pub judgedFeeders-hold : failing judgedFeeders ≡ []
-unfolding failing final
-judgedFeeders-hold = refl
-
-pub readings-hold : failing readings ≡ []
-unfolding failing final
-readings-hold = refl
-
--- ---- the worked example of the desk, at the level of calls
-abbrev pub worked : List Call
-worked =
-    report (Tray 1) ∷ scan (StartScan 2 1 2 10) ∷ report (Bytes (65 ∷ 66 ∷ [])) ∷ report SideEnded ∷ scan (Fetch name1 8 (replicate 259 0)) ∷ []
-
-pub worked-holds :
-    map lineOf (run (start (replicate 64 0)) worked .outcomes)
-    ≡ (line 0 Idle Unloaded 0 1 0 []
-    ∷ line 0 Scanning Busy 1 1 1 (10 ∷ [])
-    ∷ line 0 Scanning Busy 1 1 1 (2 ∷ [])
-    ∷ line 0 Finishing Unloaded 1 1 0 []
-    ∷ line 0 Pending Unloaded 1 2 0 (2 ∷ 1 ∷ 65 ∷ 66 ∷ [])
+-- ---- reason numbers, in order of test: every call's tests in a box where as many hold as can
+pub tests : List (Case (List Line))
+unfolding final
+tests =
+    that "StartScan: 601, 501, 711, 713" (lines (scan (StartScan 1 1000 1 123)) (holding (settings 0 1) (feed Stuck Jammed 0 1)))
+    (refuse n604 false ∷ refuse n601 true ∷ refuse n501 true ∷ refuse n711 true ∷ refuse n713 false ∷ []) refl
+    ∷ that "StartScan: 713 where 711 is not" (lines (scan (StartScan 1 1000 1 123)) (holding (settings 0 1) (feed Unloaded Jammed 0 0)))
+    (refuse n604 false ∷ refuse n601 true ∷ refuse n501 true ∷ refuse n711 false ∷ refuse n713 true ∷ []) refl
+    ∷ that "Start: 601, 712, 501, 711, 713" (lines (scan (Start 42 1 1000)) (copying 0 (feed Stuck Jammed 0 1) (ring 3 4)))
+    (refuse n604 false ∷ refuse n601 true ∷ refuse n712 true ∷ refuse n501 true ∷ refuse n711 true ∷ refuse n713 false ∷ []) refl
+    ∷ that "Start: 713 where 711 is not" (lines (scan (Start 42 1 1000)) (resting (settings 0 1) (feed Unloaded Jammed 0 0)))
+    (refuse n604 false ∷ refuse n601 true ∷ refuse n712 true ∷ refuse n501 true ∷ refuse n711 false ∷ refuse n713 true ∷ []) refl
+    ∷ that "Stop: 712" (lines (scan (Stop 42)) unsound) (refuse n604 true ∷ refuse n712 true ∷ []) refl
+    ∷ that "Abort: 712" (lines (scan (Abort 42)) unsound) (refuse n604 true ∷ refuse n712 true ∷ []) refl
+    ∷ that "GetDestination: 712" (lines (scan (GetDestination 42)) unsound) (refuse n604 true ∷ refuse n712 true ∷ []) refl
+    ∷ that "Fetch: 404, 603" (lines (scan (Fetch J42 255 [])) unsound) (refuse n604 true ∷ refuse n404 true ∷ refuse n603 true ∷ []) refl
+    ∷ that "GetState: none" (lines (scan GetState) unsound) (refuse n604 true ∷ []) refl
+    ∷ that "GetSideInformation: none" (lines (scan GetSideInformation) unsound) (refuse n604 true ∷ []) refl
+    ∷ that "Load: 712, 501, 711, 713" (lines (feeder (Load 42)) (drawingLast 0 8 (ring 3 4)))
+    (refuse n604 false
+    ∷ refuse n712 true
+    ∷ refuse n501 true
+    ∷ refuse n711 false
+    ∷ leaving n713 true
+    (box (scanner Scanning Timeout) (job 41 41 77 13 0) (side 6 8 90) (settings 1 0) (feed Unloaded Jammed 0 0) (ring 3 4))
     ∷ [])
+    refl
+    ∷ that "Eject: 601, 712, 501, 711" (lines (feeder (Eject 42 3)) (drawing 0 8 (ring 3 4)))
+    (refuse n604 false ∷ refuse n601 true ∷ refuse n712 true ∷ refuse n501 true ∷ refuse n711 false ∷ []) refl
+    ∷ that "Eject: 711 where 501 is not" (lines (feeder (Eject 42 3)) (faulty (settings 1 0) (feed Stuck Jammed 0 1)))
+    (refuse n604 false ∷ refuse n601 true ∷ refuse n712 true ∷ refuse n501 false ∷ refuse n711 true ∷ []) refl
+    ∷ that "Reset: 712, 501" (lines (feeder (Reset 42)) (drawing 0 8 (ring 3 4))) (refuse n604 false ∷ refuse n712 true ∷ refuse n501 true ∷ []) refl
+    ∷ that "SetFeederMode: 601, 712, 501" (lines (feeder (SetFeederMode 42 1)) (drawing 0 8 (ring 3 4)))
+    (refuse n604 false ∷ refuse n601 true ∷ refuse n712 true ∷ refuse n501 true ∷ []) refl
+    ∷ that "feeder GetState: none" (lines (feeder GetFeederState) unsound) (refuse n604 true ∷ []) refl
+    ∷ that "GetFeederMode: none" (lines (feeder GetFeederMode) unsound) (refuse n604 true ∷ []) refl
+    ∷ that "Bytes: 501, 603" (lines (report (Bytes (71 ∷ 72 ∷ []))) (clearing 0 (feed Loaded Jammed 1 0) (ring 3 4)))
+    (refuse n604 false ∷ refuse n501 true ∷ refuse n603 true ∷ []) refl
+    ∷ that "Side ended: 501" (lines (report SideEnded) unsound) (refuse n604 true ∷ refuse n501 true ∷ []) refl
+    ∷ that "Tray: 601" (lines (report (Tray 2)) unsound) (refuse n604 true ∷ refuse n601 true ∷ []) refl
+    ∷ that "Path: 601" (lines (report (Path 2)) unsound) (refuse n604 true ∷ refuse n601 true ∷ []) refl
+    ∷ that "Tick: none" (lines (report Tick) unsound) (refuse n604 true ∷ []) refl
+    ∷ []
+
+-- the numbers named for each call
+pub names : List (Case (List Reason))
+names =
+    that "StartScan (601, 501, 711, 713)" (named (scan (StartScan 1 7 1 123))) (n601 ∷ n501 ∷ n711 ∷ n713 ∷ []) refl
+    ∷ that "Start (601, 712, 501, 711, 713)" (named (scan (Start 41 1 7))) (n601 ∷ n712 ∷ n501 ∷ n711 ∷ n713 ∷ []) refl
+    ∷ that "Stop (712)" (named (scan (Stop 41))) (n712 ∷ []) refl
+    ∷ that "Abort (712)" (named (scan (Abort 41))) (n712 ∷ []) refl
+    ∷ that "GetDestination (712)" (named (scan (GetDestination 41))) (n712 ∷ []) refl
+    ∷ that "Fetch (404, 603)" (named (scan (Fetch J41 255 nine))) (n404 ∷ n603 ∷ []) refl
+    ∷ that "GetState: no refusal but 604" (named (scan GetState)) [] refl
+    ∷ that "GetSideInformation: no refusal but 604" (named (scan GetSideInformation)) [] refl
+    ∷ that "Load (712, 501, 711, 713)" (named (feeder (Load 41))) (n712 ∷ n501 ∷ n711 ∷ n713 ∷ []) refl
+    ∷ that "Eject (601, 712, 501, 711)" (named (feeder (Eject 41 1))) (n601 ∷ n712 ∷ n501 ∷ n711 ∷ []) refl
+    ∷ that "Reset (712, 501)" (named (feeder (Reset 41))) (n712 ∷ n501 ∷ []) refl
+    ∷ that "SetFeederMode (601, 712, 501)" (named (feeder (SetFeederMode 41 0))) (n601 ∷ n712 ∷ n501 ∷ []) refl
+    ∷ that "feeder GetState: as it reads" (named (feeder GetFeederState)) [] refl
+    ∷ that "GetFeederMode: as it reads" (named (feeder GetFeederMode)) [] refl
+    ∷ that "Bytes (501, 603)" (named (report (Bytes (71 ∷ [])))) (n501 ∷ n603 ∷ []) refl
+    ∷ that "Side ended (501)" (named (report SideEnded)) (n501 ∷ []) refl
+    ∷ that "Tray (601)" (named (report (Tray 1))) (n601 ∷ []) refl
+    ∷ that "Path (601)" (named (report (Path 1))) (n601 ∷ []) refl
+    ∷ that "Tick" (named (report Tick)) [] refl
+    ∷ []
+
+-- the rows of the table
+abbrev pub rows : List Reason
+rows = n604 ∷ n601 ∷ n712 ∷ n404 ∷ n501 ∷ n711 ∷ n713 ∷ n603 ∷ []
+
+pub numbers : List (Case (List ℕ))
+numbers =
+    that "each reason's number" (map numberOf rows) (604 ∷ 601 ∷ 712 ∷ 404 ∷ 501 ∷ 711 ∷ 713 ∷ 603 ∷ []) refl
+    ∷ that "each reason's row" (map rowOf rows) (1 ∷ 2 ∷ 3 ∷ 4 ∷ 5 ∷ 6 ∷ 7 ∷ 8 ∷ []) refl
+    ∷ []
+
+-- ---- the moves, on a record in which all numbers differ, sound or not: what a sentence does not name stays
+abbrev pub odd : Scan → Feed → Record
+odd s f = box (scanner s Timeout) (job 31 34 97 40 43) (side 46 49 52) (settings 55 58) (feed f Jammed 61 64) (ring 67 70)
+
+pub moves : List (Case Record)
+unfolding final
+moves =
+    that "the scanner changed" (withScanner (scanner Erred Jammed) (odd Finishing Loaded))
+    (box (scanner Erred Jammed) (job 31 34 97 40 43) (side 46 49 52) (settings 55 58) (feed Loaded Jammed 61 64) (ring 67 70)) refl
+    ∷ that "the job changed" (withJob (job 81 84 87 90 93) (odd Finishing Loaded))
+    (box (scanner Finishing Timeout) (job 81 84 87 90 93) (side 46 49 52) (settings 55 58) (feed Loaded Jammed 61 64) (ring 67 70)) refl
+    ∷ that "the side changed" (withSide (side 81 84 87) (odd Finishing Loaded))
+    (box (scanner Finishing Timeout) (job 31 34 97 40 43) (side 81 84 87) (settings 55 58) (feed Loaded Jammed 61 64) (ring 67 70)) refl
+    ∷ that "the settings changed" (withSettings (settings 81 84) (odd Finishing Loaded))
+    (box (scanner Finishing Timeout) (job 31 34 97 40 43) (side 46 49 52) (settings 81 84) (feed Loaded Jammed 61 64) (ring 67 70)) refl
+    ∷ that "the feeder changed" (withFeeder (feed Stuck Timeout 81 84) (odd Finishing Loaded))
+    (box (scanner Finishing Timeout) (job 31 34 97 40 43) (side 46 49 52) (settings 55 58) (feed Stuck Timeout 81 84) (ring 67 70)) refl
+    ∷ that "the ring changed" (withRing (ring 81 84) (odd Finishing Loaded))
+    (box (scanner Finishing Timeout) (job 31 34 97 40 43) (side 46 49 52) (settings 55 58) (feed Loaded Jammed 61 64) (ring 81 84)) refl
+    ∷ that "the scanner stands so, its FailureCode kept" (standing Pending (odd Finishing Loaded))
+    (box (scanner Pending Timeout) (job 31 34 97 40 43) (side 46 49 52) (settings 55 58) (feed Loaded Jammed 61 64) (ring 67 70)) refl
+    ∷ that "quiet set" (quietAt 81 (odd Finishing Loaded))
+    (box (scanner Finishing Timeout) (job 31 34 97 81 43) (side 46 49 52) (settings 55 58) (feed Loaded Jammed 61 64) (ring 67 70)) refl
+    ∷ that "the stop-asked mark set" (stopAt 81 (odd Finishing Loaded))
+    (box (scanner Finishing Timeout) (job 31 34 97 40 81) (side 46 49 52) (settings 55 58) (feed Loaded Jammed 61 64) (ring 67 70)) refl
+    ∷ that "SideCount set" (countAt 81 (odd Finishing Loaded))
+    (box (scanner Finishing Timeout) (job 31 34 97 40 43) (side 46 81 52) (settings 55 58) (feed Loaded Jammed 61 64) (ring 67 70)) refl
+    ∷ that "emptying the ring sets start and stored to 0" (emptied (odd Finishing Loaded))
+    (box (scanner Finishing Timeout) (job 31 34 97 40 43) (side 46 49 52) (settings 55 58) (feed Loaded Jammed 61 64) (ring 0 0)) refl
+    ∷ that "no byte moved: quiet stays" (heard 0 (odd Finishing Loaded))
+    (box (scanner Finishing Timeout) (job 31 34 97 40 43) (side 46 49 52) (settings 55 58) (feed Loaded Jammed 61 64) (ring 67 70)) refl
+    ∷ that "one byte moved: quiet 0" (heard 1 (odd Finishing Loaded))
+    (box (scanner Finishing Timeout) (job 31 34 97 0 43) (side 46 49 52) (settings 55 58) (feed Loaded Jammed 61 64) (ring 67 70)) refl
+    ∷ that "DestinationID rises" (announced (odd Finishing Loaded))
+    (box (scanner Finishing Timeout) (job 31 34 97 40 43) (side 46 49 53) (settings 55 58) (feed Loaded Jammed 61 64) (ring 67 70)) refl
+    ∷ that "a side begins" (begun (odd Finishing Loaded))
+    (box (scanner Scanning Timeout) (job 31 34 97 40 43) (side 46 49 53) (settings 55 58) (feed Loaded Jammed 61 64) (ring 67 70)) refl
+    ∷ that "end of job, however it ended" (released Jammed (feed Stuck Timeout 81 84) (odd Finishing Loaded))
+    (box (scanner Idle Jammed) (job 0 34 97 0 0) (side 1 0 52) (settings 55 58) (feed Stuck Timeout 81 84) (ring 0 0)) refl
+    ∷ that "end of job" (ended (odd Scanning Busy))
+    (box (scanner Idle None) (job 0 34 97 0 0) (side 1 0 52) (settings 55 58) (feed Unloaded Jammed 61 64) (ring 0 0)) refl
+    ∷ that "end of job by time" (timedOut (odd Scanning Busy))
+    (box (scanner Idle Timeout) (job 0 34 97 0 0) (side 1 0 52) (settings 55 58) (feed Stuck Timeout 61 64) (ring 0 0)) refl
+    ∷ that "StartScan: Append, the job and its time stored" (given 81 84 (odd Finishing Loaded))
+    (box (scanner Finishing Timeout) (job 35 35 84 40 43) (side 46 49 52) (settings 55 81) (feed Loaded Jammed 61 64) (ring 67 70)) refl
+    ∷ that "UseFeeder and SideCount stored, FailureCode none, quiet 0" (readied 81 84 (odd Finishing Loaded))
+    (box (scanner Pending None) (job 31 34 97 0 43) (side 46 84 52) (settings 81 58) (feed Loaded Jammed 61 64) (ring 67 70)) refl
+    ∷ that "Start on the glass" (started 81 84 (odd Finishing Loaded))
+    (box (scanner Scanning None) (job 31 34 97 0 43) (side 46 84 53) (settings 81 58) (feed Loaded Jammed 61 64) (ring 67 70)) refl
+    ∷ that "Start from the feeder" (started 1 84 (odd Finishing Loaded))
+    (box (scanner Scanning None) (job 31 34 97 0 43) (side 46 84 53) (settings 1 58) (feed Busy Jammed 61 64) (ring 67 70)) refl
+    ∷ that "Stop asks" (stopped (odd Finishing Loaded))
+    (box (scanner Finishing Timeout) (job 31 34 97 40 1) (side 46 49 52) (settings 55 58) (feed Loaded Jammed 61 64) (ring 67 70)) refl
+    ∷ that "SideNumber plus 1" (numbered (odd Finishing Loaded))
+    (box (scanner Finishing Timeout) (job 31 34 97 40 43) (side 47 49 52) (settings 55 58) (feed Loaded Jammed 61 64) (ring 67 70)) refl
+    ∷ that "the scanner becomes Erred, Jammed" (faulted (odd Finishing Loaded))
+    (box (scanner Erred Jammed) (job 31 34 97 40 43) (side 46 49 52) (settings 55 58) (feed Loaded Jammed 61 64) (ring 67 70)) refl
+    ∷ that "713 gives Pending" (waited (odd Finishing Loaded))
+    (box (scanner Pending Timeout) (job 31 34 97 40 43) (side 46 49 52) (settings 55 58) (feed Loaded Jammed 61 64) (ring 67 70)) refl
+    ∷ that "start moves on by k" (moved 5 100 (odd Finishing Loaded))
+    (box (scanner Finishing Timeout) (job 31 34 97 0 43) (side 46 49 52) (settings 55 58) (feed Loaded Jammed 61 64) (ring 72 65)) refl
+    ∷ that "start moves on by k, round the ring's end" (moved 5 70 (odd Finishing Loaded))
+    (box (scanner Finishing Timeout) (job 31 34 97 0 43) (side 46 49 52) (settings 55 58) (feed Loaded Jammed 61 64) (ring 2 65)) refl
+    ∷ that "bytes in behind the stored ones" (filled 5 (odd Scanning Loaded))
+    (box (scanner Scanning Timeout) (job 31 34 97 0 43) (side 46 49 52) (settings 55 58) (feed Loaded Jammed 61 64) (ring 67 75)) refl
+    ∷ that "Side ended" (finished (odd Scanning Busy))
+    (box (scanner Finishing Timeout) (job 31 34 97 0 43) (side 46 48 52) (settings 55 58) (feed Unloaded Jammed 61 64) (ring 67 70)) refl
+    ∷ that "a jam" (caught (odd Scanning Busy))
+    (box (scanner Erred Jammed) (job 31 34 97 0 0) (side 46 49 52) (settings 55 58) (feed Stuck Jammed 61 1) (ring 0 0)) refl
+    ∷ that "Path 0" (pathed 0 (odd Scanning Busy))
+    (box (scanner Scanning Timeout) (job 31 34 97 40 43) (side 46 49 52) (settings 55 58) (feed Busy Jammed 61 0) (ring 67 70)) refl
+    ∷ that "a Tick" (ticked (odd Pending Loaded))
+    (box (scanner Pending Timeout) (job 31 34 97 41 43) (side 46 49 52) (settings 55 58) (feed Loaded Jammed 61 64) (ring 67 70)) refl
+    ∷ []
+
+pub feederMoves : List (Case Feeder)
+feederMoves =
+    that "the feeder stands so: FailureCode and sensors kept" (stands Stuck (feed Loaded Jammed 61 64)) (feed Stuck Jammed 61 64) refl
+    ∷ that "the feeder fails: sensors kept" (fails Stuck Timeout (feed Loaded Jammed 61 64)) (feed Stuck Timeout 61 64) refl
+    ∷ that "the tray sensor set" (trayAt 81 (feed Loaded Jammed 61 64)) (feed Loaded Jammed 81 64) refl
+    ∷ that "the path sensor set" (pathAt 81 (feed Loaded Jammed 61 64)) (feed Loaded Jammed 61 81) refl
+    ∷ []
+
+-- ---- a list of calls: each gets the record and ring as the last one left them
+-- a job of two sides that a stop ends with the second, then another job
+abbrev pub twoJobs : List Turn
+twoJobs =
+    turn (report (Tray 1))
+    (out 0 nothing (box (scanner Idle None) (job 0 0 60 0 0) (side 1 0 0) (settings 1 1) (feed Unloaded None 1 0) (ring 0 0)) five [])
+    ∷ turn (scan (StartScan 2 2 2 50))
+    (out 0 (time 50) (box (scanner Scanning None) (job 1 1 50 0 0) (side 1 2 1) (settings 1 1) (feed Busy None 1 0) (ring 0 0)) five [])
+    ∷ turn (report (Bytes (71 ∷ 72 ∷ 73 ∷ [])))
+    (out 0 (stored 3) (box (scanner Scanning None) (job 1 1 50 0 0) (side 1 2 1) (settings 1 1) (feed Busy None 1 0) (ring 0 3))
+    (71 ∷ 72 ∷ 73 ∷ 24 ∷ 25 ∷ []) [])
+    ∷ turn (report SideEnded)
+    (out 0 nothing (box (scanner Finishing None) (job 1 1 50 0 0) (side 1 1 1) (settings 1 1) (feed Unloaded None 1 0) (ring 0 3))
+    (71 ∷ 72 ∷ 73 ∷ 24 ∷ 25 ∷ []) [])
+    ∷ turn (scan (Fetch J1-001 255 nine))
+    (out 0 (picture 3 true (71 ∷ 72 ∷ 73 ∷ [])) (box (scanner Scanning None) (job 1 1 50 0 0) (side 2 1 2) (settings 1 1) (feed Busy None 1 0) (ring 3 0))
+    (71 ∷ 72 ∷ 73 ∷ 24 ∷ 25 ∷ []) (0xA5 ∷ 0x5A ∷ 0x06 ∷ 3 ∷ 71 ∷ 72 ∷ 73 ∷ 68 ∷ 69 ∷ []))
+    ∷ turn (report Tick)
+    (out 0 nothing (box (scanner Scanning None) (job 1 1 50 1 0) (side 2 1 2) (settings 1 1) (feed Busy None 1 0) (ring 3 0))
+    (71 ∷ 72 ∷ 73 ∷ 24 ∷ 25 ∷ []) [])
+    ∷ turn (report (Bytes (81 ∷ 82 ∷ 83 ∷ 84 ∷ [])))
+    (out 0 (stored 4) (box (scanner Scanning None) (job 1 1 50 0 0) (side 2 1 2) (settings 1 1) (feed Busy None 1 0) (ring 3 4))
+    (83 ∷ 84 ∷ 73 ∷ 81 ∷ 82 ∷ []) [])
+    ∷ turn (scan (Stop 1))
+    (out 0 nothing (box (scanner Scanning None) (job 1 1 50 0 1) (side 2 1 2) (settings 1 1) (feed Busy None 1 0) (ring 3 4))
+    (83 ∷ 84 ∷ 73 ∷ 81 ∷ 82 ∷ []) [])
+    ∷ turn (report SideEnded)
+    (out 0 nothing (box (scanner Finishing None) (job 1 1 50 0 1) (side 2 0 2) (settings 1 1) (feed Unloaded None 1 0) (ring 3 4))
+    (83 ∷ 84 ∷ 73 ∷ 81 ∷ 82 ∷ []) [])
+    ∷ turn (scan (Fetch J1-002 3 nine))
+    (out 0 (picture 3 false (81 ∷ 82 ∷ 83 ∷ []))
+    (box (scanner Finishing None) (job 1 1 50 0 1) (side 2 0 2) (settings 1 1) (feed Unloaded None 1 0) (ring 1 1))
+    (83 ∷ 84 ∷ 73 ∷ 81 ∷ 82 ∷ []) (0xA5 ∷ 0x5A ∷ 0x06 ∷ 3 ∷ 81 ∷ 82 ∷ 83 ∷ 68 ∷ 69 ∷ []))
+    ∷ turn (scan (Fetch J1-002 3 nine))
+    (out 0 (picture 1 true (84 ∷ [])) (box (scanner Idle None) (job 0 1 50 0 0) (side 1 0 2) (settings 1 1) (feed Unloaded None 1 0) (ring 0 0))
+    (83 ∷ 84 ∷ 73 ∷ 81 ∷ 82 ∷ []) (0xA5 ∷ 0x5A ∷ 0x06 ∷ 1 ∷ 84 ∷ 66 ∷ 67 ∷ 68 ∷ 69 ∷ []))
+    ∷ turn (feeder (Load 0))
+    (out 0 nothing (box (scanner Idle None) (job 0 1 50 0 0) (side 1 0 2) (settings 1 1) (feed Loaded None 1 0) (ring 0 0))
+    (83 ∷ 84 ∷ 73 ∷ 81 ∷ 82 ∷ []) [])
+    ∷ turn (scan (StartScan 1 minusOne 0 0))
+    (out 0 (time 60) (box (scanner Scanning None) (job 2 2 60 0 0) (side 1 minusOne 3) (settings 1 0) (feed Busy None 1 0) (ring 0 0))
+    (83 ∷ 84 ∷ 73 ∷ 81 ∷ 82 ∷ []) [])
+    ∷ turn (report (Bytes (91 ∷ [])))
+    (out 0 (stored 1) (box (scanner Scanning None) (job 2 2 60 0 0) (side 1 minusOne 3) (settings 1 0) (feed Busy None 1 0) (ring 0 1))
+    (91 ∷ 84 ∷ 73 ∷ 81 ∷ 82 ∷ []) [])
+    ∷ turn (scan (GetDestination 2))
+    (out 0 (destination J2 3) (box (scanner Scanning None) (job 2 2 60 0 0) (side 1 minusOne 3) (settings 1 0) (feed Busy None 1 0) (ring 0 1))
+    (91 ∷ 84 ∷ 73 ∷ 81 ∷ 82 ∷ []) [])
+    ∷ turn (report SideEnded)
+    (out 0 nothing (box (scanner Finishing None) (job 2 2 60 0 0) (side 1 minusOne 3) (settings 1 0) (feed Unloaded None 1 0) (ring 0 1))
+    (91 ∷ 84 ∷ 73 ∷ 81 ∷ 82 ∷ []) [])
+    ∷ turn (scan (Fetch J2 9 nine))
+    (out 0 (picture 1 true (91 ∷ [])) (box (scanner Scanning None) (job 2 2 60 0 0) (side 2 minusOne 4) (settings 1 0) (feed Busy None 1 0) (ring 1 0))
+    (91 ∷ 84 ∷ 73 ∷ 81 ∷ 82 ∷ []) (0xA5 ∷ 0x5A ∷ 0x06 ∷ 1 ∷ 91 ∷ 66 ∷ 67 ∷ 68 ∷ 69 ∷ []))
+    ∷ turn (report (Path 1))
+    (out 0 nothing (box (scanner Erred Jammed) (job 2 2 60 0 0) (side 2 minusOne 4) (settings 1 0) (feed Stuck Jammed 1 1) (ring 0 0))
+    (91 ∷ 84 ∷ 73 ∷ 81 ∷ 82 ∷ []) [])
+    ∷ turn (scan (Abort 2))
+    (out 0 nothing (box (scanner Idle None) (job 0 2 60 0 0) (side 1 0 4) (settings 1 0) (feed Stuck Jammed 1 1) (ring 0 0))
+    (91 ∷ 84 ∷ 73 ∷ 81 ∷ 82 ∷ []) [])
+    ∷ []
+
+-- the worked example of the desk, at the level of calls
+abbrev pub zeros : List ℕ
+zeros = replicate 62 0
+
+abbrev pub worked : List Turn
+worked =
+    turn (report (Tray 1))
+    (out 0 nothing (box (scanner Idle None) (job 0 0 60 0 0) (side 1 0 0) (settings 1 1) (feed Unloaded None 1 0) (ring 0 0)) (0 ∷ 0 ∷ zeros) [])
+    ∷ turn (scan (StartScan 2 1 2 10))
+    (out 0 (time 10) (box (scanner Scanning None) (job 1 1 10 0 0) (side 1 1 1) (settings 1 1) (feed Busy None 1 0) (ring 0 0)) (0 ∷ 0 ∷ zeros) [])
+    ∷ turn (report (Bytes (65 ∷ 66 ∷ [])))
+    (out 0 (stored 2) (box (scanner Scanning None) (job 1 1 10 0 0) (side 1 1 1) (settings 1 1) (feed Busy None 1 0) (ring 0 2)) (65 ∷ 66 ∷ zeros) [])
+    ∷ turn (report SideEnded)
+    (out 0 nothing (box (scanner Finishing None) (job 1 1 10 0 0) (side 1 0 1) (settings 1 1) (feed Unloaded None 1 0) (ring 0 2)) (65 ∷ 66 ∷ zeros) [])
+    ∷ turn (scan (Fetch J1-001 8 (replicate 259 0)))
+    (out 0 (picture 2 true (65 ∷ 66 ∷ []))
+    (box (scanner Pending None) (job 1 1 10 0 0) (side 2 0 1) (settings 1 1) (feed Unloaded None 1 0) (ring 2 0))
+    (65 ∷ 66 ∷ zeros) (0xA5 ∷ 0x5A ∷ 0x06 ∷ 2 ∷ 65 ∷ 66 ∷ replicate 253 0))
+    ∷ []
+
+pub stories : List (Case (List Outcome))
+unfolding final
+stories =
+    that "two jobs" (run (start five) (map callOf twoJobs) .outcomes) (map outcomeOf twoJobs) refl
+    ∷ that "the worked example" (run (start (0 ∷ 0 ∷ zeros)) (map callOf worked) .outcomes) (map outcomeOf worked) refl
+    ∷ []
+
+pub worked-holds : run (start (0 ∷ 0 ∷ zeros)) (map callOf worked) .outcomes ≡ map outcomeOf worked
 unfolding final
 worked-holds = refl

@@ -1,0 +1,216 @@
+-- What a case is, and the literal parts that cases are made of. None of it is made by the box's own moves.
+use Prim.Native.Nat.{ℕ}
+use Prim.Native.String.{String}
+use mathlib.Core.Path.{_≡_}
+use mathlib.Core.Bool.{Bool}
+use mathlib.Core.List.{List, [], _∷_, _++_}
+use lib.ListN.{replicate}
+use Rattle.rules.specs.declared.Scan.{Scan}
+use Rattle.rules.specs.declared.Scan.the-variants.{Idle, Pending, Scanning, Finishing, Erred}
+use Rattle.rules.specs.declared.Feed.{Feed}
+use Rattle.rules.specs.declared.Feed.the-variants.{Loaded, Busy}
+use Rattle.rules.specs.declared.Failure.{Failure}
+use Rattle.rules.specs.declared.Failure.the-variants.{Jammed, Timeout}
+use Rattle.rules.specs.declared.Scanner.{Scanner}
+use Rattle.rules.specs.declared.Job.{Job}
+use Rattle.rules.specs.declared.Side.{Side}
+use Rattle.rules.specs.declared.Settings.{Settings}
+use Rattle.rules.specs.declared.Feeder.{Feeder}
+use Rattle.rules.specs.declared.Ring.{Ring}
+use Rattle.rules.specs.declared.Record.{Record}
+use Rattle.rules.specs.Record.{sound}
+use Rattle.rules.specs.Moves.{begun, released, given, readied, started, stopped, name, drained, moved, fetched, filled, finished, sideEnded, pathed}
+use Rattle.rules.specs.Moves.{ticked}
+use Rattle.rules.specs.Calls.{Tick, Call, report, State, Values, nothing, picture, stored, Outcome, answer}
+use Rattle.rules.specs.Machine.{runBy, scanRefusals, feederRefusals, reportRefusals, refusals, scanEffect, feederEffect, reportEffect, effect, step}
+use Rattle.rules.specs.Machine.{run}
+
+-- ---- a case: what it says, what the definitions give, what the paper says, and that the two are equal
+pub record Case (A : Type 0) : Type 0 where
+  pub says : String
+  pub gives : A
+  pub due : A
+  pub holds : gives ≡ due
+
+abbrev pub Right : {A : Type 0} → Case A → Type 0
+Right c = c .gives ≡ c .due
+
+abbrev pub that : {A : Type 0} (says : String) (gives due : A) → gives ≡ due → Case A
+that says gives due e = record { says = says; gives = gives; due = due; holds = e }
+
+-- the outcome of a call after others
+unfoldable pub final : State → List Call → Call → Outcome
+unfolding runBy step answer scanRefusals feederRefusals reportRefusals refusals scanEffect feederEffect reportEffect effect sound begun
+    released given readied started stopped name drained moved fetched filled finished sideEnded pathed ticked
+final s cs c = step (run s cs .end) c
+
+-- ---- literal parts, their numbers in the order of src/lib.rt
+-- scan state, FailureCode
+abbrev pub scanner : Scan → Failure → Scanner
+scanner s why = record { state = s; failure = why }
+
+-- the job held, the last number given, granted, quiet, stop asked
+abbrev pub job : ℕ → ℕ → ℕ → ℕ → ℕ → Job
+job held last granted quiet stop = record { held = held; last = last; granted = record { seconds = granted }; quiet = quiet; stop = stop }
+
+-- SideNumber, SideCount, DestinationID
+abbrev pub side : ℕ → ℕ → ℕ → Side
+side number count destination = record { number = number; count = count; destination = destination }
+
+-- UseFeeder, Append
+abbrev pub settings : ℕ → ℕ → Settings
+settings from append = record { feeder = from; append = append }
+
+-- feeder state, FailureCode, MorePages, path sensor
+abbrev pub feed : Feed → Failure → ℕ → ℕ → Feeder
+feed x why tray path = record { state = x; failure = why; tray = tray; path = path }
+
+-- start, stored
+abbrev pub ring : ℕ → ℕ → Ring
+ring start count = record { start = start; stored = count }
+
+abbrev pub box : Scanner → Job → Side → Settings → Feeder → Ring → Record
+box s j d t f g = record { scanner = s; job = j; side = d; settings = t; feeder = f; ring = g }
+
+-- SideCount −1 and −2 in two's complement
+abbrev pub minusOne : ℕ
+minusOne = 4294967295
+
+abbrev pub minusTwo : ℕ
+minusTwo = 4294967294
+
+-- a lent ring of five bytes, a lent reply of nine
+abbrev pub five : List ℕ
+five = 21 ∷ 22 ∷ 23 ∷ 24 ∷ 25 ∷ []
+
+abbrev pub nine : List ℕ
+nine = 61 ∷ 62 ∷ 63 ∷ 64 ∷ 65 ∷ 66 ∷ 67 ∷ 68 ∷ 69 ∷ []
+
+-- names: of a job, of a job's side
+abbrev pub J41 : List ℕ
+J41 = 74 ∷ 48 ∷ 48 ∷ 48 ∷ 48 ∷ 48 ∷ 48 ∷ 48 ∷ 48 ∷ 52 ∷ 49 ∷ 46 ∷ 106 ∷ 112 ∷ 103 ∷ []
+
+abbrev pub J41-006 : List ℕ
+J41-006 = 74 ∷ 48 ∷ 48 ∷ 48 ∷ 48 ∷ 48 ∷ 48 ∷ 48 ∷ 48 ∷ 52 ∷ 49 ∷ 48 ∷ 48 ∷ 54 ∷ 46 ∷ 106 ∷ 112 ∷ 103 ∷ []
+
+abbrev pub J41-007 : List ℕ
+J41-007 = 74 ∷ 48 ∷ 48 ∷ 48 ∷ 48 ∷ 48 ∷ 48 ∷ 48 ∷ 48 ∷ 52 ∷ 49 ∷ 48 ∷ 48 ∷ 55 ∷ 46 ∷ 106 ∷ 112 ∷ 103 ∷ []
+
+abbrev pub J42 : List ℕ
+J42 = 74 ∷ 48 ∷ 48 ∷ 48 ∷ 48 ∷ 48 ∷ 48 ∷ 48 ∷ 48 ∷ 52 ∷ 50 ∷ 46 ∷ 106 ∷ 112 ∷ 103 ∷ []
+
+abbrev pub J42-001 : List ℕ
+J42-001 = 74 ∷ 48 ∷ 48 ∷ 48 ∷ 48 ∷ 48 ∷ 48 ∷ 48 ∷ 48 ∷ 52 ∷ 50 ∷ 48 ∷ 48 ∷ 49 ∷ 46 ∷ 106 ∷ 112 ∷ 103 ∷ []
+
+abbrev pub J0-001 : List ℕ
+J0-001 = 74 ∷ 48 ∷ 48 ∷ 48 ∷ 48 ∷ 48 ∷ 48 ∷ 48 ∷ 48 ∷ 48 ∷ 48 ∷ 48 ∷ 48 ∷ 49 ∷ 46 ∷ 106 ∷ 112 ∷ 103 ∷ []
+
+abbrev pub J1234567890 : List ℕ
+J1234567890 = 74 ∷ 49 ∷ 50 ∷ 51 ∷ 52 ∷ 53 ∷ 54 ∷ 55 ∷ 56 ∷ 57 ∷ 48 ∷ 46 ∷ 106 ∷ 112 ∷ 103 ∷ []
+
+abbrev pub J1234567890-987 : List ℕ
+J1234567890-987 = 74 ∷ 49 ∷ 50 ∷ 51 ∷ 52 ∷ 53 ∷ 54 ∷ 55 ∷ 56 ∷ 57 ∷ 48 ∷ 57 ∷ 56 ∷ 55 ∷ 46 ∷ 106 ∷ 112 ∷ 103 ∷ []
+
+abbrev pub J4294967295-999 : List ℕ
+J4294967295-999 = 74 ∷ 52 ∷ 50 ∷ 57 ∷ 52 ∷ 57 ∷ 54 ∷ 55 ∷ 50 ∷ 57 ∷ 53 ∷ 57 ∷ 57 ∷ 57 ∷ 46 ∷ 106 ∷ 112 ∷ 103 ∷ []
+
+abbrev pub J1-001 : List ℕ
+J1-001 = 74 ∷ 48 ∷ 48 ∷ 48 ∷ 48 ∷ 48 ∷ 48 ∷ 48 ∷ 48 ∷ 48 ∷ 49 ∷ 48 ∷ 48 ∷ 49 ∷ 46 ∷ 106 ∷ 112 ∷ 103 ∷ []
+
+abbrev pub J1-002 : List ℕ
+J1-002 = 74 ∷ 48 ∷ 48 ∷ 48 ∷ 48 ∷ 48 ∷ 48 ∷ 48 ∷ 48 ∷ 48 ∷ 49 ∷ 48 ∷ 48 ∷ 50 ∷ 46 ∷ 106 ∷ 112 ∷ 103 ∷ []
+
+abbrev pub J2 : List ℕ
+J2 = 74 ∷ 48 ∷ 48 ∷ 48 ∷ 48 ∷ 48 ∷ 48 ∷ 48 ∷ 48 ∷ 48 ∷ 50 ∷ 46 ∷ 106 ∷ 112 ∷ 103 ∷ []
+
+-- ---- outcomes: number, values, record, ring and reply
+abbrev pub out : ℕ → Values → Record → List ℕ → List ℕ → Outcome
+out n v r bytes reply = record { number = n; values = v; state = record { box = r; bytes = bytes }; reply = reply }
+
+-- accepted, the ring of five as it came: with nothing to tell, or with these values
+abbrev pub done : Record → Outcome
+done r = out 0 nothing r five []
+
+abbrev pub told : Values → Record → Outcome
+told v r = out 0 v r five []
+
+-- a fetch: head, picture bytes, later bytes of the reply
+abbrev pub sent : ℕ → Bool → List ℕ → List ℕ → Record → Outcome
+sent k last bytes later r = out 0 (picture k last bytes) r five (0xA5 ∷ 0x5A ∷ 0x06 ∷ k ∷ bytes ++ later)
+
+-- Bytes: how many went in, and the ring then
+abbrev pub took : ℕ → List ℕ → Record → Outcome
+took k bytes r = out 0 (stored k) r bytes []
+
+-- ---- cases of calls
+abbrev pub after : (says : String) (s : State) (cs : List Call) (c : Call) (due : Outcome) → final s cs c ≡ due → Case Outcome
+after says s cs c due e = that says (final s cs c) due e
+
+abbrev pub case : (says : String) (s : State) (c : Call) (due : Outcome) → final s [] c ≡ due → Case Outcome
+case says s c due e = after says s [] c due e
+
+-- refused, all as it was, and no reply lent
+abbrev pub left : ℕ → State → Outcome
+left n s = out n nothing (s .box) (s .bytes) []
+
+abbrev pub keeps : (says : String) (s : State) (c : Call) (n : ℕ) → final s [] c ≡ left n s → Case Outcome
+keeps says s c n e = after says s [] c (left n s) e
+
+abbrev pub ticks : ℕ → List Call
+ticks n = replicate n (report Tick)
+
+-- a call and its outcome, in a list of calls
+pub record Turn : Type 0 where
+  pub call : Call
+  pub outcome : Outcome
+
+abbrev pub turn : Call → Outcome → Turn
+turn c o = record { call = c; outcome = o }
+
+abbrev pub callOf : Turn → Call
+callOf t = t .call
+
+abbrev pub outcomeOf : Turn → Outcome
+outcomeOf t = t .outcome
+
+-- ---- where cases start: sound boxes in which the numbers all differ
+abbrev pub boxed : Record → List ℕ → State
+boxed r bytes = record { box = r; bytes = bytes }
+
+abbrev pub at : Record → State
+at r = boxed r five
+
+-- Idle
+abbrev pub resting : Settings → Feeder → State
+resting t f = at (box (scanner Idle Timeout) (job 0 41 77 0 0) (side 1 0 90) t f (ring 3 0))
+
+-- job 41 Pending, with 8 sides due
+abbrev pub holding : Settings → Feeder → State
+holding t f = at (box (scanner Pending Timeout) (job 41 41 77 13 0) (side 6 8 90) t f (ring 3 0))
+
+-- Scanning from the feeder: stop asked, SideCount, ring; the same with the last sheet drawn
+abbrev pub drawing : ℕ → ℕ → Ring → State
+drawing stop count g = at (box (scanner Scanning Timeout) (job 41 41 77 13 stop) (side 6 count 90) (settings 1 0) (feed Busy Jammed 1 0) g)
+
+abbrev pub drawingLast : ℕ → ℕ → Ring → State
+drawingLast stop count g = at (box (scanner Scanning Timeout) (job 41 41 77 13 stop) (side 6 count 90) (settings 1 0) (feed Busy Jammed 0 0) g)
+
+-- Scanning on the glass: stop asked, feeder, ring
+abbrev pub copying : ℕ → Feeder → Ring → State
+copying stop f g = at (box (scanner Scanning Timeout) (job 41 41 77 13 stop) (side 6 1 90) (settings 0 1) f g)
+
+-- Finishing from the feeder: stop asked, SideCount, feeder, ring
+abbrev pub draining : ℕ → ℕ → Feeder → Ring → State
+draining stop count f g = at (box (scanner Finishing Timeout) (job 41 41 77 13 stop) (side 6 count 90) (settings 1 0) f g)
+
+-- Finishing on the glass: stop asked, feeder, ring
+abbrev pub clearing : ℕ → Feeder → Ring → State
+clearing stop f g = at (box (scanner Finishing Timeout) (job 41 41 77 13 stop) (side 6 0 90) (settings 0 1) f g)
+
+-- Erred
+abbrev pub faulty : Settings → Feeder → State
+faulty t f = at (box (scanner Erred Timeout) (job 41 41 77 13 0) (side 6 8 90) t f (ring 3 0))
+
+-- not sound: Idle with quiet 13
+abbrev pub unsound : State
+unsound = at (box (scanner Idle Timeout) (job 0 41 77 13 0) (side 1 0 90) (settings 1 0) (feed Loaded Jammed 1 0) (ring 3 0))
