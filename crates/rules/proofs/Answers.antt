@@ -196,8 +196,20 @@ load-refusing s j =
     let c = feeder (Load j) in
     let kept : (n : Reason) → eqb (numberOf n) 713 ≡ false → Refusing s c (refused n (s .box) s c) =
     λ n e _. record { values = refl; reply = refl; left = rw e } in
-    by-tests (Refusing s c) (lines c s) s c (effect c s)
-    (kept n604 refl, λ _. (kept n712 refl, λ _. (kept n501 refl, λ _. (kept n711 refl, λ _. (λ _. record { values = refl; reply = refl; left = refl }, λ _. tt)))))
+    by-tests (Refusing s c) (lines c s) s c (effect c s) (
+      kept n604 refl,
+      λ _. (
+        kept n712 refl,
+        λ _. (
+          kept n501 refl,
+          λ _. (
+            kept n711 refl,
+            λ _.
+                (λ _. record { values = refl; reply = refl; left = refl }, λ _. tt),
+          ),
+        ),
+      ),
+    )
     (λ _. accepted-not s c (effect c s) (formed c s .accepts))
 
 pub refused-keeps : (s : State) (c : Call) → Refusing s c (step s c)

@@ -14,11 +14,12 @@ use Rattle.rules.specs.Record.{idle, granting}
 use Rattle.rules.specs.Ring.{queue}
 use Rattle.rules.specs.Moves.{settled, given, readied, begun, released, drained, least, moved, fetched, filled, finished}
 use Rattle.rules.specs.Calls.{StartScan, Start, Stop, Abort, GetDestination, Fetch, GetState, GetSideInformation, Load, Eject, Reset, SetFeederMode}
-use Rattle.rules.specs.Calls.{GetFeederState, GetFeederMode, Bytes, SideEnded, Tray, Path, Tick, Call, scan, feeder, report, State, nothing, time, Outcome}
-use Rattle.rules.specs.Calls.{lent}
+use Rattle.rules.specs.Calls.{GetFeederState, GetFeederMode, Bytes, SideEnded, Tray, Path, Tick, Call, scan, feeder, report, State, nothing, time}
+use Rattle.rules.specs.Calls.{Outcome, lent}
 use Rattle.rules.specs.Machine.{accepted, scanEffect, feederEffect, reportEffect, effect, step}
 use Rattle.rules.specs.Watch as watch
-use Rattle.rules.specs.Watch.{scanOf, countIn, bytesIn, timeIn, plusOne, ordinal, Tagged, tag, byteOf, brought, wasted, waiting, World, after, live, holder}
+use Rattle.rules.specs.Watch.{scanOf, countIn, bytesIn, timeIn, plusOne, ordinal, Tagged, tag, byteOf, brought, wasted, waiting, World, after, live}
+use Rattle.rules.specs.Watch.{holder}
 use Rattle.rules.specs.Promises.{All, Ends, Replied, asLent, written, Yields}
 use Rattle.rules.proofs.Choice.{clash, opened}
 use Rattle.rules.proofs.Sound.{Phase}

@@ -8,8 +8,8 @@ use Rattle.rules.specs.declared.Scan.{Scan}
 use Rattle.rules.specs.declared.Record.{Record}
 use Rattle.rules.specs.Record.{idle, pending, scanning, finishing, erred, on, granting}
 use Rattle.rules.specs.Moves.{settled, given, readied, begun, released, drained, numbered, least, moved, filled, finished}
-use Rattle.rules.specs.Calls.{StartScan, Start, Stop, Fetch, Bytes, SideEnded, Tray, Path, Tick, Call, scan, feeder, report, State, nothing, time, Outcome}
-use Rattle.rules.specs.Calls.{Values, to}
+use Rattle.rules.specs.Calls.{StartScan, Start, Stop, Fetch, Bytes, SideEnded, Tray, Path, Tick, Call, scan, feeder, report, State, Values, nothing}
+use Rattle.rules.specs.Calls.{time, Outcome, to}
 use Rattle.rules.specs.Machine.{accepted, scanEffect, reportEffect, step}
 use Rattle.rules.specs.Watch.{scanOf, sign, endsSide, begins, asks, stopAsked, World, after, live}
 use Rattle.rules.proofs.Choice.{clash, and-l}

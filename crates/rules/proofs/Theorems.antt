@@ -16,7 +16,8 @@ use Rattle.rules.specs.Moves.{nextJob, name}
 use Rattle.rules.specs.Calls.{StartScan, Fetch, Call, scan, n604, named, State, Outcome}
 use Rattle.rules.specs.Machine.{listed, sidesListed, same, runBy, lines, step, Ran, run, start, refusals}
 use Rattle.rules.specs.Watch.{wasAccepted, sign, scanOf, Tagged, World, after, live, born, lived, holder, told}
-use Rattle.rules.specs.Promises.{reasons, below, bears, All, Ringed, First, OneOf, Refusal, Sides, Ends, OnTime, Fate, Silent, NotPutOff, OfAnother, Yields}
+use Rattle.rules.specs.Promises.{reasons, below, bears, All, Ringed, First, OneOf, Refusal, Sides, Ends, OnTime, Fate, Silent, NotPutOff}
+use Rattle.rules.specs.Promises.{OfAnother, Yields}
 use Rattle.rules.specs.Cases.{Case, Right}
 use Rattle.rules.specs.Table.{table}
 use Rattle.rules.proofs.Agrees as agrees
