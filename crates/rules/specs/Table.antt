@@ -1,7 +1,7 @@
 -- The paper's cases: after which calls, which call, and its whole outcome. A definition that is wrong fails at the line of a case.
 use Prim.Native.Nat.{ℕ}
 use mathlib.Core.Path.{_≡_, refl}
-use mathlib.Core.Bool.{true, false}
+use mathlib.Core.Bool.{Bool, true, false}
 use mathlib.Core.List.{List, [], _∷_, _++_, map}
 use lib.ListN.{replicate}
 use Rattle.rules.specs.declared.Scan.{Scan}
@@ -14,12 +14,12 @@ use Rattle.rules.specs.declared.Record.{Record}
 use Rattle.rules.specs.Feeder.{stands, fails, trayAt, pathAt}
 use Rattle.rules.specs.Moves.{withScanner, withJob, withSide, withSettings, withFeeder, withRing, standing, quietAt, stopAt, countAt, emptied, heard}
 use Rattle.rules.specs.Moves.{announced, begun, released, ended, timedOut, given, readied, started, stopped, numbered, faulted, waited, moved, filled}
-use Rattle.rules.specs.Moves.{finished, caught, pathed, ticked}
+use Rattle.rules.specs.Moves.{finished, caught, pathed, ticked, name}
 use Rattle.rules.specs.Calls.{StartScan, Start, Stop, Abort, GetDestination, Fetch, GetState, GetSideInformation, Load, Eject, Reset, SetFeederMode}
 use Rattle.rules.specs.Calls.{GetFeederState, GetFeederMode, Bytes, SideEnded, Tray, Path, Tick, scan, feeder, report, nothing, time, destination}
 use Rattle.rules.specs.Calls.{picture, state, sides, feeding, mode, stored, Outcome, Reason, n604, n601, n712, n404, n501, n711, n713, n603, numberOf}
-use Rattle.rules.specs.Calls.{rowOf, named, Line, refuse, leaving}
-use Rattle.rules.specs.Machine.{run, start, lines}
+use Rattle.rules.specs.Calls.{rowOf, named, Line, refuse, leaving, answer}
+use Rattle.rules.specs.Machine.{run, start, lines, notHeld, notOurs}
 use Rattle.rules.specs.Cases.{Case, that, final, after, case, keeps, ticks, at, boxed, resting, holding, drawing, drawingLast, copying, draining}
 use Rattle.rules.specs.Cases.{clearing, faulty, unsound, out, done, told, sent, took, box, scanner, job, side, settings, feed, ring, minusOne}
 use Rattle.rules.specs.Cases.{minusTwo, five, nine, J41, J41-006, J41-007, J42, J42-001, J0-001, J1234567890, J1234567890-987, J4294967295-999}
@@ -303,6 +303,9 @@ fetches =
     ∷ case "k by the reply's length: start comes to the ring's end" (copying 1 (feed Loaded Jammed 1 0) (ring 3 4))
     (scan (Fetch J41-006 255 (61 ∷ 62 ∷ 63 ∷ 64 ∷ 65 ∷ 66 ∷ [])))
     (sent 2 false (24 ∷ 25 ∷ []) [] (box (scanner Scanning Timeout) (job 41 41 77 0 1) (side 6 1 90) (settings 0 1) (feed Loaded Jammed 1 0) (ring 0 2))) refl
+    ∷ case "k by the reply's length in Finishing: bytes stay, so it is not the last" (draining 0 8 (feed Loaded Jammed 1 0) (ring 3 4))
+    (scan (Fetch J41 255 (61 ∷ 62 ∷ 63 ∷ 64 ∷ 65 ∷ 66 ∷ [])))
+    (sent 2 false (24 ∷ 25 ∷ []) [] (box (scanner Finishing Timeout) (job 41 41 77 0 0) (side 6 8 90) (settings 1 0) (feed Loaded Jammed 1 0) (ring 0 2))) refl
     ∷ case "k 1 is a sign of life" (drawing 0 8 (ring 3 4)) (scan (Fetch J41 1 nine))
     (sent 1 false (24 ∷ []) (66 ∷ 67 ∷ 68 ∷ 69 ∷ [])
     (box (scanner Scanning Timeout) (job 41 41 77 0 0) (side 6 8 90) (settings 1 0) (feed Busy Jammed 1 0) (ring 4 3))) refl
@@ -945,6 +948,48 @@ moves =
     (box (scanner Scanning Timeout) (job 31 34 97 40 43) (side 46 49 52) (settings 55 58) (feed Busy Jammed 61 0) (ring 67 70)) refl
     ∷ that "a Tick" (ticked (odd Pending Loaded))
     (box (scanner Pending Timeout) (job 31 34 97 41 43) (side 46 49 52) (settings 55 58) (feed Loaded Jammed 61 64) (ring 67 70)) refl
+    ∷ that "a Tick past the limit ends the job too"
+    (ticked (box (scanner Pending Timeout) (job 31 34 97 99 43) (side 46 49 52) (settings 55 58) (feed Loaded Jammed 61 64) (ring 67 70)))
+    (box (scanner Idle Timeout) (job 0 34 97 0 0) (side 1 0 52) (settings 55 58) (feed Loaded Jammed 61 64) (ring 0 0)) refl
+    ∷ []
+
+-- the name and the job tests go by the job held, not by the last number given
+pub called : List (Case (List ℕ))
+unfolding final
+called =
+    that "the name is of the job held" (name (odd Pending Loaded))
+    (74 ∷ 48 ∷ 48 ∷ 48 ∷ 48 ∷ 48 ∷ 48 ∷ 48 ∷ 48 ∷ 51 ∷ 49 ∷ 46 ∷ 106 ∷ 112 ∷ 103 ∷ []) refl
+    ∷ []
+
+pub bearers : List (Case Bool)
+bearers =
+    that "scan calls: the number held" (notHeld 31 (odd Pending Loaded)) false refl
+    ∷ that "the last number given" (notHeld 34 (odd Pending Loaded)) true refl
+    ∷ that "any number in Idle" (notHeld 31 (odd Idle Loaded)) true refl
+    ∷ that "feeder calls: the number held" (notOurs 31 (odd Pending Loaded)) false refl
+    ∷ that "the last number given there" (notOurs 34 (odd Pending Loaded)) true refl
+    ∷ []
+
+-- ---- a list of lines: the first test that holds gives the answer
+abbrev pub elsewhere : Outcome
+elsewhere = out 0 (mode 81) (odd Finishing Busy) (82 ∷ 83 ∷ []) (84 ∷ [])
+
+abbrev pub walked : List Line → Outcome
+walked ls = answer ls (resting (settings 1 0) (feed Loaded Jammed 1 0)) (scan (Fetch J41 255 nine)) elsewhere
+
+pub walks : List (Case Outcome)
+unfolding final
+walks =
+    that "no line: accepted" (walked []) elsewhere refl
+    ∷ that "the first that holds" (walked (refuse n404 true ∷ refuse n603 true ∷ []))
+    (out 404 nothing (box (scanner Idle Timeout) (job 0 41 77 0 0) (side 1 0 90) (settings 1 0) (feed Loaded Jammed 1 0) (ring 3 0)) five nine) refl
+    ∷ that "one that does not is passed" (walked (refuse n404 false ∷ refuse n603 true ∷ []))
+    (out 603 nothing (box (scanner Idle Timeout) (job 0 41 77 0 0) (side 1 0 90) (settings 1 0) (feed Loaded Jammed 1 0) (ring 3 0)) five nine) refl
+    ∷ that "a line that leaves something else" (walked (leaving n713 true (odd Pending Stuck) ∷ refuse n603 true ∷ []))
+    (out 713 nothing (odd Pending Stuck) five nine) refl
+    ∷ that "where it does not hold it is passed" (walked (leaving n713 false (odd Pending Stuck) ∷ refuse n603 true ∷ []))
+    (out 603 nothing (box (scanner Idle Timeout) (job 0 41 77 0 0) (side 1 0 90) (settings 1 0) (feed Loaded Jammed 1 0) (ring 3 0)) five nine) refl
+    ∷ that "none holds: accepted" (walked (leaving n713 false (odd Pending Stuck) ∷ refuse n603 false ∷ [])) elsewhere refl
     ∷ []
 
 pub feederMoves : List (Case Feeder)

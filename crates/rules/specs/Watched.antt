@@ -11,7 +11,7 @@ use Rattle.rules.specs.declared.Failure.the-variants.{None, Jammed, Time
 use Rattle.rules.specs.Calls.{StartScan, Start, Stop, Abort, GetDestination, Fetch, GetState, GetSideInformation, Load, Eject, Reset, SetFeederMode}
 use Rattle.rules.specs.Calls.{GetFeederState, GetFeederMode, Bytes, SideEnded, Tray, Path, Tick, Call, scan, feeder, report, State, Values, nothing}
 use Rattle.rules.specs.Calls.{time, destination, picture, state, sides, feeding, mode, stored, Outcome}
-use Rattle.rules.specs.Watch.{Event, countIn, bytesIn, timeIn, seconds, timeAnswered, ordinal, Tagged, bytesAccepted, waiting, World, after, live}
+use Rattle.rules.specs.Watch.{Event, countIn, bytesIn, timeIn, seconds, timeAnswered, ordinal, Tagged, byteOf, bytesAccepted, waiting, World, after, live}
 use Rattle.rules.specs.Watch.{lived, told as toldTo, begins, stopAsked, holder, dueSecond}
 use Rattle.rules.specs.Cases.{Case, that, final, ticks, at, resting, holding, drawing, copying, draining, faulty, out, done, told, box, scanner, job}
 use Rattle.rules.specs.Cases.{side, settings, feed, ring, five, nine, J41, J42}
@@ -232,11 +232,16 @@ queues =
     ∷ sees "a fetch takes k from the front" (threeIn ++ scan (Fetch J42 2 nine) ∷ []) (three, first 73 ∷ []) refl
     ∷ sees "then more wait" (threeIn ++ scan (Fetch J42 2 nine) ∷ report (Bytes (74 ∷ 75 ∷ [])) ∷ report SideEnded ∷ report (Tray 0) ∷ scan (Stop 42) ∷ [])
     (three ++ first 74 ∷ first 75 ∷ [], first 73 ∷ first 74 ∷ first 75 ∷ []) refl
+    ∷ sees "no other call brings any"
+    (threeIn ++ report Tick ∷ report (Tray 1) ∷ report (Path 0) ∷ feeder GetFeederState ∷ scan GetState ∷ report SideEnded ∷ []) (three, three) refl
     ∷ sees "the end of a job leaves none" (threeIn ++ scan (Abort 42) ∷ []) (three, []) refl
     ∷ sees "a jam leaves none" (threeIn ++ report (Path 1) ∷ []) (three, []) refl
     ∷ sees "the second job's" (threeIn ++ scan (Abort 42) ∷ begin 45 ∷ report (Bytes (81 ∷ 82 ∷ [])) ∷ [])
     (three ++ second 81 ∷ second 82 ∷ [], second 81 ∷ second 82 ∷ []) refl
     ∷ []
+
+pub untagged : List (Case ℕ)
+untagged = that "the byte without its job" (byteOf (second 81)) 81 refl ∷ []
 
 -- ---- what a watcher reads off the values: k of a fetch, its bytes, the granted time
 abbrev pub readOff : Values → ℕ × List ℕ × Option ℕ
