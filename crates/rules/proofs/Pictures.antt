@@ -314,6 +314,7 @@ module _ (w : World) (h : Waiting w) (c : Call) where
       let q = waiting (w .past) in
       record {
         yield = got w c;
+        next = refl;
         told = told;
         count = sym (length-bytes (got w c)) ∙ ap length (sym told) ∙ took .many;
         reply = subst (λ (l : List ℕ). Replied (lent c) l (step (w .now) c .reply)) told (replied (w .now) c);

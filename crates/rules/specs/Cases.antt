@@ -173,7 +173,7 @@ callOf t = t .call
 abbrev pub outcomeOf : Turn → Outcome
 outcomeOf t = t .outcome
 
--- ---- where cases start: sound boxes in which the numbers all differ
+-- ---- where cases start: sound boxes in which the numbers differ that can
 abbrev pub boxed : Record → List ℕ → State
 boxed r bytes = record { box = r; bytes = bytes }
 

@@ -7,7 +7,7 @@ use mathlib.Core.List.{List, [], _∷_, _++_, map}
 use mathlib.Core.Option.{Option, none, some}
 use lib.Dec.{eqb, ltb}
 use lib.IntN.{ℤ, pos, negsuc}
-use lib.ListN.{length, drop}
+use lib.ListN.{length, take, drop}
 use Rattle.rules.specs.declared.Failure.{Failure}
 use Rattle.rules.specs.declared.Record.{Record}
 use Rattle.rules.specs.Record.{greatest, mostSides, mostRing, pending, erred}
@@ -153,9 +153,11 @@ pub data Replied (was : List ℕ) : List ℕ → List ℕ → Type 0 where
   asLent : Replied was [] was
   written : (bytes : List ℕ) → Replied was bytes (0xA5 ∷ 0x5A ∷ 0x06 ∷ length bytes ∷ bytes ++ drop (4 + length bytes) was)
 
--- what a call reports, and what stands in its reply, are bytes that stand together among all the accepted ones, in order
+-- what a call reports, and what stands in its reply, are the first k of those that wait: bytes that stand together among all
+-- the accepted ones, in order, and P holds of each
 pub record Yields (w : World) (c : Call) (P : Tagged → Type 0) : Type 0 where
   pub yield : List Tagged
+  pub next : yield ≡ take (countIn (step (w .now) c .values)) (waiting (w .past))
   pub told : bytesIn (step (w .now) c .values) ≡ map byteOf yield
   pub count : length yield ≡ countIn (step (w .now) c .values)
   pub reply : Replied (lent c) (map byteOf yield) (step (w .now) c .reply)

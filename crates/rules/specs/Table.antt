@@ -948,7 +948,7 @@ moves =
     (box (scanner Scanning Timeout) (job 31 34 97 40 43) (side 46 49 52) (settings 55 58) (feed Busy Jammed 61 0) (ring 67 70)) refl
     ∷ that "a Tick" (ticked (odd Pending Loaded))
     (box (scanner Pending Timeout) (job 31 34 97 41 43) (side 46 49 52) (settings 55 58) (feed Loaded Jammed 61 64) (ring 67 70)) refl
-    ∷ that "a Tick past the limit ends the job too"
+    ∷ that "a Tick past the limit ends the job too, by our reading: no sound record is there"
     (ticked (box (scanner Pending Timeout) (job 31 34 97 99 43) (side 46 49 52) (settings 55 58) (feed Loaded Jammed 61 64) (ring 67 70)))
     (box (scanner Idle Timeout) (job 0 34 97 0 0) (side 1 0 52) (settings 55 58) (feed Loaded Jammed 61 64) (ring 0 0)) refl
     ∷ []

@@ -45,7 +45,7 @@ signs =
     ∷ heard "a Path report that turns Scanning into Erred" (drawing 0 8 (ring 3 4)) (report (Path 1)) (0, 0) refl
     ∷ []
 
--- nothing else does: two Ticks are counted on, and quiet is 13 and 2, or 0 where the job is over
+-- nothing else does: two Ticks are counted on, and quiet is 13 and 2, or 0 where no job is held
 pub silences : List (Case (ℕ × ℕ))
 unfolding final live after
 silences =
