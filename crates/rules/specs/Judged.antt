@@ -329,7 +329,8 @@ words =
 -- the quiet seconds at which a held job ends; what is granted, of 32 bits asked
 pub times : List (Case (List ℕ))
 times =
-    that "granted (300 in Erred)" (map (λ (s : Scan). limit s 77) (Pending ∷ Scanning ∷ Finishing ∷ Erred ∷ [])) (77 ∷ 77 ∷ 77 ∷ 300 ∷ []) refl
+    that "granted (300 in Erred)" (map (λ (s : Scan). limit s 77) (Idle ∷ Pending ∷ Scanning ∷ Finishing ∷ Erred ∷ []))
+    (77 ∷ 77 ∷ 77 ∷ 77 ∷ 300 ∷ []) refl
     ∷ that "0 gives 60; otherwise below 5 gives 5, above 600 gives 600"
     (map (λ (t : ℕ). granting t .seconds) (0 ∷ 1 ∷ 4 ∷ 5 ∷ 6 ∷ 599 ∷ 600 ∷ 601 ∷ 4294967295 ∷ []))
     (60 ∷ 5 ∷ 5 ∷ 5 ∷ 6 ∷ 599 ∷ 600 ∷ 600 ∷ 600 ∷ []) refl

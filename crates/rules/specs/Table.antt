@@ -498,7 +498,7 @@ sideEnds =
     (done (box (scanner Finishing Timeout) (job 41 41 77 0 0) (side 6 minusOne 90) (settings 1 0) (feed Unloaded Jammed 1 0) (ring 3 4))) refl
     ∷ case "on the glass: 1 falls to 0, the feeder stays Loaded" (copying 0 (feed Loaded Jammed 1 0) (ring 3 4)) (report SideEnded)
     (done (box (scanner Finishing Timeout) (job 41 41 77 0 0) (side 6 0 90) (settings 0 1) (feed Loaded Jammed 1 0) (ring 3 4))) refl
-    ∷ case "on the glass: the feeder stays Erred" (copying 1 (feed Stuck Jammed 0 1) (ring 3 4)) (report SideEnded)
+    ∷ case "on the glass the feeder stays Erred as a side ends" (copying 1 (feed Stuck Jammed 0 1) (ring 3 4)) (report SideEnded)
     (done (box (scanner Finishing Timeout) (job 41 41 77 0 1) (side 6 0 90) (settings 0 1) (feed Stuck Jammed 0 1) (ring 3 4))) refl
     ∷ case "the ring empty, SideCount falls to 0: Pending" (drawing 0 1 (ring 3 0)) (report SideEnded)
     (done (box (scanner Pending Timeout) (job 41 41 77 0 0) (side 7 0 90) (settings 1 0) (feed Unloaded Jammed 1 0) (ring 3 0))) refl

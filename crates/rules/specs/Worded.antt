@@ -1,6 +1,6 @@
 -- The words of the promises, by cases of their own: a word that is too narrow makes a theorem say less than its name, and no proof tells.
 use Prim.Native.Nat.{ℕ}
-use mathlib.Core.Path.{_≡_, refl}
+use mathlib.Core.Path.{refl}
 use mathlib.Core.Bool.{Bool, true, false}
 use mathlib.Core.List.{List, [], _∷_}
 use mathlib.Core.Option.{Option, none, some}
