@@ -1,3 +1,2 @@
 pub mod Leads
-pub mod Padded
 pub mod Settled
