@@ -42,15 +42,9 @@ pub fn get_feeder_mode(r: Record, ring: &[u8]) -> After
     ensures { λ a. ⌜ gave a (now (ring .entry)) [] ≡ step (stateOf r (now (ring .entry))) (feeder GetFeederMode) ⌝ }
 {
     if !state::sound_with(r, ring) {
-        return After {
-            next: r,
-            answer: Answer::Refused(Why::Unsound),
-        };
+        return After::refused(Why::Unsound, r);
     }
-    After {
-        next: r,
-        answer: Answer::Mode(0),
-    }
+    After::told(Answer::Mode(0), r)
 }
 
 pub fn get_state(r: Record, ring: &[u8]) -> After
@@ -60,13 +54,7 @@ pub fn get_state(r: Record, ring: &[u8]) -> After
     let s = f.state;
     let why = f.failure;
     if !state::sound_with(r, ring) {
-        return After {
-            next: r,
-            answer: Answer::Refused(Why::Unsound),
-        };
+        return After::refused(Why::Unsound, r);
     }
-    After {
-        next: r,
-        answer: Answer::Feeding(s, f.tray, why),
-    }
+    After::told(Answer::Feeding(s, f.tray, why), r)
 }

@@ -35,28 +35,16 @@ pub fn bytes(r: Record, ring: &mut [u8], given: &[u8]) -> After
     let s = c.state;
     let g = r.ring;
     if !state::is_sound(r, ring.len()) {
-        return After {
-            next: r,
-            answer: Answer::Refused(Why::Unsound),
-        };
+        return After::refused(Why::Unsound, r);
     }
     if !state::scan::is_scanning(s) {
-        return After {
-            next: r,
-            answer: Answer::Refused(Why::WrongState),
-        };
+        return After::refused(Why::WrongState, r);
     }
     if !ring::put_in(ring, g, given) {
-        return After {
-            next: r,
-            answer: Answer::Refused(Why::NoRoom),
-        };
+        return After::refused(Why::NoRoom, r);
     }
     let k = given.len();
-    After {
-        next: fuller(k, r),
-        answer: Answer::Stored(k),
-    }
+    After::told(Answer::Stored(k), fuller(k, r))
 }
 
 pub fn side_ended(r: Record, ring: &[u8]) -> After
