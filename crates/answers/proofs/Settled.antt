@@ -2,9 +2,11 @@
 use Prim.Native.Nat.{ℕ}
 use mathlib.Core.Path.{_≡_, refl, sym, ap, _∙_}
 use mathlib.Core.Bool.{cond}
-use mathlib.Core.List.{List}
+use mathlib.Core.List.{List, []}
+use native.Mathlib.Omega.{arith}
 use lib.Dec.{eqb}
 use Rattle.rules.specs.declared.Record.{Record}
+use Rattle.rules.specs.Record.{fresh}
 use Rattle.rules.specs.Calls.{Values, nothing, time, destination, picture, state, sides, feeding, mode, stored, Outcome}
 use Rattle.answers.specs.declared.Why.{Why}
 use Rattle.answers.specs.declared.Answer.{Answer}
@@ -54,6 +56,19 @@ read-back r reply (Answer.Refused Why.WrongState) = refl
 read-back r reply (Answer.Refused Why.FeederErred) = refl
 read-back r reply (Answer.Refused Why.NoSheet) = refl
 read-back r reply (Answer.Refused Why.NoRoom) = refl
+
+-- the number of a refusal settles its reason, and is not 0
+pub why-settled : (v w : Why) → numberTold (Answer.Refused v) ≡ numberTold (Answer.Refused w) → v ≡ w
+why-settled v w e =
+    let x : Answer.Refused v ≡ Answer.Refused w =
+    sym (read-back fresh [] (Answer.Refused v)) ∙ ap (λ (n : ℕ). back n nothing) e ∙ read-back fresh [] (Answer.Refused w) in
+    cc
+
+pub refusal-counts : (w : Why) → numberTold (Answer.Refused w) ≡ 0 → ⊥
+refusal-counts w e =
+    let x : Answer.Refused w ≡ Answer.Done = sym (read-back fresh [] (Answer.Refused w)) ∙ ap (λ (n : ℕ). back n nothing) e in
+    let z : _≡_ {A = ℕ} 0 1 = cc in
+    omega arith
 
 same-after : {n m : Record} {x y : Answer} → n ≡ m → x ≡ y → _≡_ {A = After} (record { next = n; answer = x }) (record { next = m; answer = y })
 same-after e f = rw (e, f)
