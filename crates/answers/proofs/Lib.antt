@@ -1,3 +1,3 @@
 pub mod Leads
-pub mod Padded
 pub mod Settled
+pub mod Lending

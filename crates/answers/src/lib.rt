@@ -1,11 +1,35 @@
-// What a call answers: a case for acceptance with the values that it reports, or the reason for which it is refused.
+// What is asked of the box, and what it answers: a case for each kind of values that an acceptance reports, or the reason for
+// which the call is refused.
 use rules::Failure;
 use rules::Feed;
 use rules::Record;
 use rules::Scan;
 ghost use mathlib.Core.Path.{_≡_};
 ghost use Rattle.rules.specs.Calls.{numberOf};
-ghost use Rattle.answers.specs.Told.{reasonOf};
+ghost use Rattle.answers.specs.Told.{reasonOf, numberTold};
+
+// The calls and reports. A fetch's name, a report's picture bytes and the reply are lent beside.
+pub enum Request {
+    StartScan(u8, u32, u8, u32),
+    Start(u32, u8, u32),
+    Stop(u32),
+    Abort(u32),
+    GetDestination(u32),
+    Fetch(u8),
+    GetState,
+    GetSideInformation,
+    Load(u32),
+    Eject(u32, u8),
+    Reset(u32),
+    SetFeederMode(u32, u8),
+    GetFeederState,
+    GetFeederMode,
+    Bytes,
+    SideEnded,
+    Tray(u8),
+    Path(u8),
+    Tick,
+}
 
 // The reasons, in order of test.
 pub enum Why {
@@ -37,124 +61,70 @@ impl Why {
     }
 }
 
-// Start, Stop, Abort; Load, Eject, Reset, SetFeederMode; Side ended, Tray, Path, Tick.
-pub enum Done {
-    Accepted,
+// Accepted: nothing to report; the granted time; DestinationID, the name being the next record's; k and whether it is the last,
+// the bytes standing in the reply; scan state and FailureCode; SideNumber, SideCount, ScanLength; the feeder's state, MorePages,
+// FailureCode; the mode; how many bytes went in. Refused: why.
+pub enum Answer {
+    Done,
+    Time(u16),
+    Destination(u32),
+    Picture(u8, bool),
+    State(Scan, Failure),
+    Sides(u16, u32, u32),
+    Feeding(Feed, u8, Failure),
+    Mode(u8),
+    Stored(usize),
     Refused(Why),
 }
 
-pub struct AfterCall {
-    pub next: Record,
-    pub answer: Done,
-}
-
-impl AfterCall {
-    pub fn told(answer: Done, next: Record) -> AfterCall
-        ensures { λ a. ⌜ a ≡ record { next = next; answer = answer } ⌝ }
+impl Answer {
+    // 0 is acceptance, else the reason's.
+    pub fn number(self) -> u16
+        ensures { λ n. ⌜ n ≡ numberTold self ⌝ }
     {
-        AfterCall { next, answer }
+        match self {
+            Answer::Done => 0,
+            Answer::Time(_) => 0,
+            Answer::Destination(_) => 0,
+            Answer::Picture(_, _) => 0,
+            Answer::State(_, _) => 0,
+            Answer::Sides(_, _, _) => 0,
+            Answer::Feeding(_, _, _) => 0,
+            Answer::Mode(_) => 0,
+            Answer::Stored(_) => 0,
+            Answer::Refused(why) => why.number(),
+        }
     }
 }
 
-// StartScan: the granted time.
-pub enum Granting {
-    For(u16),
-    Refused(Why),
-}
-
-pub struct AfterStartScan {
+// The record that a call leaves, and its answer.
+pub struct After {
     pub next: Record,
-    pub answer: Granting,
+    pub answer: Answer,
 }
 
-impl AfterStartScan {
-    pub fn told(answer: Granting, next: Record) -> AfterStartScan
+impl After {
+    pub fn told(answer: Answer, next: Record) -> After
         ensures { λ a. ⌜ a ≡ record { next = next; answer = answer } ⌝ }
     {
-        AfterStartScan { next, answer }
+        After { next, answer }
     }
-}
 
-// The bytes of a name and how many there are; unused bytes are 0.
-pub struct Name {
-    pub bytes: [u8; 18],
-    pub len: usize,
-}
+    pub fn done(next: Record) -> After
+        ensures { λ a. ⌜ a ≡ record { next = next; answer = Answer.Done } ⌝ }
+    {
+        After {
+            next,
+            answer: Answer::Done,
+        }
+    }
 
-// GetDestination: DestinationID; the name stands beside it, empty where refused.
-pub enum Found {
-    At(u32),
-    Refused(Why),
-}
-
-pub struct AfterGetDestination {
-    pub next: Record,
-    pub name: Name,
-    pub answer: Found,
-}
-
-// Fetch: k, and whether it is the last; the bytes stand in the reply.
-pub enum Fetched {
-    Moved(u8, bool),
-    Refused(Why),
-}
-
-pub struct AfterFetch {
-    pub next: Record,
-    pub answer: Fetched,
-}
-
-// GetState: scan state and FailureCode.
-pub enum Standing {
-    At(Scan, Failure),
-    Refused(Why),
-}
-
-pub struct AfterGetState {
-    pub next: Record,
-    pub answer: Standing,
-}
-
-// GetSideInformation: SideNumber, SideCount, ScanLength.
-pub enum Sides {
-    At(u16, u32, u32),
-    Refused(Why),
-}
-
-pub struct AfterGetSideInformation {
-    pub next: Record,
-    pub answer: Sides,
-}
-
-// The feeder's GetState: its state, MorePages, FailureCode.
-pub enum Feeding {
-    At(Feed, u8, Failure),
-    Refused(Why),
-}
-
-pub struct AfterFeederGetState {
-    pub next: Record,
-    pub answer: Feeding,
-}
-
-// GetFeederMode.
-pub enum Mode {
-    At(u8),
-    Refused(Why),
-}
-
-pub struct AfterGetFeederMode {
-    pub next: Record,
-    pub answer: Mode,
-}
-
-// Bytes: how many went in.
-pub enum Stored {
-    Bytes(usize),
-    Refused(Why),
-}
-
-pub struct AfterBytes {
-    pub next: Record,
-    pub answer: Stored,
+    pub fn refused(why: Why, next: Record) -> After
+        ensures { λ a. ⌜ a ≡ record { next = next; answer = Answer.Refused why } ⌝ }
+    {
+        After {
+            next,
+            answer: Answer::Refused(why),
+        }
+    }
 }

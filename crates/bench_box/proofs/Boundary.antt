@@ -13,8 +13,8 @@ use Rattle.rules.specs.Calls.{State, report, Tick}
 use Rattle.rules.specs.Machine.{step}
 use Rattle.rules.proofs.Theorems.{refused-keeps}
 use Rattle.answers.specs.Told.{stateOf}
-use Rattle.calls.specs.declared.Request.{Request}
-use Rattle.calls.specs.Asked.{asked}
+use Rattle.answers.specs.declared.Request.{Request}
+use Rattle.answers.specs.Asked.{asked}
 use Rattle.text.specs.Digits.{mostDigits}
 use Rattle.text.specs.Put.{fitting}
 use Rattle.text.proofs.Putting.{length-digits}

@@ -13,8 +13,8 @@ use Rattle.rules.specs.Calls.{State, Outcome}
 use Rattle.rules.specs.Machine.{step}
 use Rattle.rules.proofs.Guards.{stop, pass}
 use Rattle.answers.specs.Told.{stateOf}
-use Rattle.calls.specs.declared.Request.{Request}
-use Rattle.calls.specs.Asked.{asked, kindOf, replied}
+use Rattle.answers.specs.declared.Request.{Request}
+use Rattle.answers.specs.Asked.{asked, kindOf, replied}
 use Rattle.text.specs.Put.{Puts}
 use Rattle.text.proofs.Putting.{put-none, moved}
 use Rattle.line.specs.Line.{lineOf, lineFor, lineRoom}

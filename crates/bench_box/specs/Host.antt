@@ -9,7 +9,7 @@ use Rattle.rules.specs.Record.{sound}
 use Rattle.rules.specs.Calls.{n604, numberOf, Outcome, nothing}
 use Rattle.rules.specs.Machine.{step}
 use Rattle.answers.specs.Told.{stateOf}
-use Rattle.calls.specs.Asked.{asked, kindOf, replied}
+use Rattle.answers.specs.Asked.{asked, kindOf, replied}
 use Rattle.text.specs.Put.{fitting, over}
 use Rattle.line.specs.Line.{lineFor, lineRoom}
 use Rattle.stream.specs.Desk.{Heard, asks, wrong, heard, badLine}

@@ -1,3 +1,1 @@
-pub mod Through
-pub mod Settled
 pub mod Chain

@@ -1,8 +1,7 @@
 // The feeder calls: the job number must be the one held, 0 when Idle.
 pub mod mode;
 
-use answers::AfterCall;
-use answers::Done;
+use answers::After;
 use answers::Why;
 use rules::Record;
 ghost use mathlib.Core.Path.{_≡_};
@@ -11,7 +10,7 @@ ghost use Rattle.rules.specs.Calls.{feeder, Load, Eject, Reset};
 ghost use Rattle.rules.specs.Feeder.{unloads, loads, ejects, resets};
 ghost use Rattle.rules.specs.Moves.{withFeeder};
 ghost use Rattle.rules.specs.Machine.{step};
-ghost use Rattle.answers.specs.Told.{stateOf, outcome, done};
+ghost use Rattle.answers.specs.Told.{stateOf, gave};
 
 // ---- the record with the feeder moved
 fn unloaded(r: Record) -> Record
@@ -44,67 +43,67 @@ fn cleared(r: Record) -> Record
 
 // ---- the calls
 // Tray empty: 713 and Unloaded, from Loaded too. Else Loaded.
-pub fn load(r: Record, ring: &[u8], job: u32) -> AfterCall
-    ensures { λ a. ⌜ outcome (done (a .answer)) (a .next) (now (ring .entry)) [] ≡ step (stateOf r (now (ring .entry))) (feeder (Load job)) ⌝ }
+pub fn load(r: Record, ring: &[u8], job: u32) -> After
+    ensures { λ a. ⌜ gave a (now (ring .entry)) [] ≡ step (stateOf r (now (ring .entry))) (feeder (Load job)) ⌝ }
 {
     let f = r.feeder;
     let s = f.state;
     if !state::sound_with(r, ring) {
-        return AfterCall::told(Done::Refused(Why::Unsound), r);
+        return After::refused(Why::Unsound, r);
     }
     if state::asked::not_ours(job, r) {
-        return AfterCall::told(Done::Refused(Why::OtherJob), r);
+        return After::refused(Why::OtherJob, r);
     }
     if state::feed::is_busy(s) {
-        return AfterCall::told(Done::Refused(Why::WrongState), r);
+        return After::refused(Why::WrongState, r);
     }
     if state::feed::is_erred(s) {
-        return AfterCall::told(Done::Refused(Why::FeederErred), r);
+        return After::refused(Why::FeederErred, r);
     }
     if feeding::is_loadless(f) {
-        return AfterCall::told(Done::Refused(Why::NoSheet), unloaded(r));
+        return After::refused(Why::NoSheet, unloaded(r));
     }
-    AfterCall::told(Done::Accepted, loaded(r))
+    After::done(loaded(r))
 }
 
 // Unloaded; 1 and 2 also set MorePages to 0.
-pub fn eject(r: Record, ring: &[u8], job: u32, value: u8) -> AfterCall
-    ensures { λ a. ⌜ outcome (done (a .answer)) (a .next) (now (ring .entry)) [] ≡ step (stateOf r (now (ring .entry))) (feeder (Eject job value)) ⌝ }
+pub fn eject(r: Record, ring: &[u8], job: u32, value: u8) -> After
+    ensures { λ a. ⌜ gave a (now (ring .entry)) [] ≡ step (stateOf r (now (ring .entry))) (feeder (Eject job value)) ⌝ }
 {
     let f = r.feeder;
     let s = f.state;
     if !state::sound_with(r, ring) {
-        return AfterCall::told(Done::Refused(Why::Unsound), r);
+        return After::refused(Why::Unsound, r);
     }
     if !state::asked::is_listed(value) {
-        return AfterCall::told(Done::Refused(Why::Unlisted), r);
+        return After::refused(Why::Unlisted, r);
     }
     if state::asked::not_ours(job, r) {
-        return AfterCall::told(Done::Refused(Why::OtherJob), r);
+        return After::refused(Why::OtherJob, r);
     }
     if state::feed::is_busy(s) {
-        return AfterCall::told(Done::Refused(Why::WrongState), r);
+        return After::refused(Why::WrongState, r);
     }
     if state::feed::is_erred(s) {
-        return AfterCall::told(Done::Refused(Why::FeederErred), r);
+        return After::refused(Why::FeederErred, r);
     }
-    AfterCall::told(Done::Accepted, ejected(value, r))
+    After::done(ejected(value, r))
 }
 
 // Erred with a clear path becomes Unloaded, none.
-pub fn reset(r: Record, ring: &[u8], job: u32) -> AfterCall
-    ensures { λ a. ⌜ outcome (done (a .answer)) (a .next) (now (ring .entry)) [] ≡ step (stateOf r (now (ring .entry))) (feeder (Reset job)) ⌝ }
+pub fn reset(r: Record, ring: &[u8], job: u32) -> After
+    ensures { λ a. ⌜ gave a (now (ring .entry)) [] ≡ step (stateOf r (now (ring .entry))) (feeder (Reset job)) ⌝ }
 {
     let f = r.feeder;
     let s = f.state;
     if !state::sound_with(r, ring) {
-        return AfterCall::told(Done::Refused(Why::Unsound), r);
+        return After::refused(Why::Unsound, r);
     }
     if state::asked::not_ours(job, r) {
-        return AfterCall::told(Done::Refused(Why::OtherJob), r);
+        return After::refused(Why::OtherJob, r);
     }
     if state::feed::is_busy(s) {
-        return AfterCall::told(Done::Refused(Why::WrongState), r);
+        return After::refused(Why::WrongState, r);
     }
-    AfterCall::told(Done::Accepted, cleared(r))
+    After::done(cleared(r))
 }

@@ -1,10 +1,6 @@
 // The feeder's mode and state.
-use answers::AfterCall;
-use answers::AfterFeederGetState;
-use answers::AfterGetFeederMode;
-use answers::Done;
-use answers::Feeding;
-use answers::Mode;
+use answers::After;
+use answers::Answer;
 use answers::Why;
 use rules::Record;
 ghost use mathlib.Core.Path.{_≡_};
@@ -13,7 +9,7 @@ ghost use lib.Dec.{eqb};
 ghost use Rattle.rules.specs.Feeder.{simplex};
 ghost use Rattle.rules.specs.Calls.{feeder, SetFeederMode, GetFeederState, GetFeederMode};
 ghost use Rattle.rules.specs.Machine.{step};
-ghost use Rattle.answers.specs.Told.{stateOf, outcome, done, fed, moded};
+ghost use Rattle.answers.specs.Told.{stateOf, gave};
 
 fn is_simplex(mode: u8) -> bool
     ensures { λ b. ⌜ b ≡ eqb mode simplex ⌝ }
@@ -22,55 +18,43 @@ fn is_simplex(mode: u8) -> bool
 }
 
 // The one mode is 0, Simplex.
-pub fn set_feeder_mode(r: Record, ring: &[u8], job: u32, mode: u8) -> AfterCall
-    ensures { λ a. ⌜ outcome (done (a .answer)) (a .next) (now (ring .entry)) [] ≡ step (stateOf r (now (ring .entry))) (feeder (SetFeederMode job mode)) ⌝ }
+pub fn set_feeder_mode(r: Record, ring: &[u8], job: u32, mode: u8) -> After
+    ensures { λ a. ⌜ gave a (now (ring .entry)) [] ≡ step (stateOf r (now (ring .entry))) (feeder (SetFeederMode job mode)) ⌝ }
 {
     let f = r.feeder;
     let s = f.state;
     if !state::sound_with(r, ring) {
-        return AfterCall::told(Done::Refused(Why::Unsound), r);
+        return After::refused(Why::Unsound, r);
     }
     if !is_simplex(mode) {
-        return AfterCall::told(Done::Refused(Why::Unlisted), r);
+        return After::refused(Why::Unlisted, r);
     }
     if state::asked::not_ours(job, r) {
-        return AfterCall::told(Done::Refused(Why::OtherJob), r);
+        return After::refused(Why::OtherJob, r);
     }
     if !state::feed::is_unloaded(s) {
-        return AfterCall::told(Done::Refused(Why::WrongState), r);
+        return After::refused(Why::WrongState, r);
     }
-    AfterCall::told(Done::Accepted, r)
+    After::done(r)
 }
 
-pub fn get_feeder_mode(r: Record, ring: &[u8]) -> AfterGetFeederMode
-    ensures { λ a. ⌜ outcome (moded (a .answer)) (a .next) (now (ring .entry)) [] ≡ step (stateOf r (now (ring .entry))) (feeder GetFeederMode) ⌝ }
+pub fn get_feeder_mode(r: Record, ring: &[u8]) -> After
+    ensures { λ a. ⌜ gave a (now (ring .entry)) [] ≡ step (stateOf r (now (ring .entry))) (feeder GetFeederMode) ⌝ }
 {
     if !state::sound_with(r, ring) {
-        return AfterGetFeederMode {
-            next: r,
-            answer: Mode::Refused(Why::Unsound),
-        };
+        return After::refused(Why::Unsound, r);
     }
-    AfterGetFeederMode {
-        next: r,
-        answer: Mode::At(0),
-    }
+    After::told(Answer::Mode(0), r)
 }
 
-pub fn get_state(r: Record, ring: &[u8]) -> AfterFeederGetState
-    ensures { λ a. ⌜ outcome (fed (a .answer)) (a .next) (now (ring .entry)) [] ≡ step (stateOf r (now (ring .entry))) (feeder GetFeederState) ⌝ }
+pub fn get_state(r: Record, ring: &[u8]) -> After
+    ensures { λ a. ⌜ gave a (now (ring .entry)) [] ≡ step (stateOf r (now (ring .entry))) (feeder GetFeederState) ⌝ }
 {
     let f = r.feeder;
     let s = f.state;
     let why = f.failure;
     if !state::sound_with(r, ring) {
-        return AfterFeederGetState {
-            next: r,
-            answer: Feeding::Refused(Why::Unsound),
-        };
+        return After::refused(Why::Unsound, r);
     }
-    AfterFeederGetState {
-        next: r,
-        answer: Feeding::At(s, f.tray, why),
-    }
+    After::told(Answer::Feeding(s, f.tray, why), r)
 }

@@ -18,10 +18,9 @@ use Rattle.rules.specs.Calls.{scan, Fetch}
 use Rattle.rules.specs.Machine.{effect, scanEffect}
 use Rattle.rules.proofs.RingLaws.{length-queue}
 use Rattle.ring.specs.Lent.{has, left, goes, takeOut}
-use Rattle.answers.specs.declared.Fetched.{Fetched}
-use Rattle.answers.specs.declared.AfterFetch.{AfterFetch}
-use Rattle.answers.specs.Told.{stateOf, outcome}
-use Rattle.answers.specs.Told as told
+use Rattle.answers.specs.declared.Answer.{Answer}
+use Rattle.answers.specs.declared.After.{After}
+use Rattle.answers.specs.Told.{stateOf, gave}
 use Rattle.fetch.specs.Reply.{replyWith, noted}
 
 -- ---- the reply
@@ -73,10 +72,10 @@ unfolding replyWith
 picture-read ring reply start k = take-at (queue ring start k) (drop (headed + k) reply) k (length-queue ring start k)
 
 -- what is told and left is the call's effect
-pub handed : (r : Record) (ring called reply : List ℕ) (most : ℕ) {a : AfterFetch} {l : List ℕ}
+pub handed : (r : Record) (ring called reply : List ℕ) (most : ℕ) {a : After} {l : List ℕ}
     → a ≡ noted (least (r .ring .stored) most (length reply)) (length ring) r
     → l ≡ replyWith ring (r .ring .start) (least (r .ring .stored) most (length reply)) reply
-    → outcome (told.fetched l (a .answer)) (a .next) ring l ≡ effect (scan (Fetch called most reply)) (stateOf r ring)
+    → gave a ring l ≡ effect (scan (Fetch called most reply)) (stateOf r ring)
 unfolding noted replyWith effect scanEffect
 handed r ring called reply most e f = rw (e, f) (rw (picture-read ring reply (r .ring .start) (least (r .ring .stored) most (length reply))))
 
@@ -92,12 +91,12 @@ module _ (r : Record) (n k : ℕ) (h : has (r .ring) n k ≡ true) where
   note-is b e = ap (λ (g : Ring). finishing (r .scanner .state) && eqb (g .stored) 0) (sym left-is) ∙ e
 
   pub noted-last : (finishing (r .scanner .state) && eqb (left (r .ring) n k .stored) 0) ≡ true
-      → _≡_ {A = AfterFetch} (record { next = drained (heard k (withRing (left (r .ring) n k) r)); answer = Fetched.Moved k true }) (noted k n r)
+      → _≡_ {A = After} (record { next = drained (heard k (withRing (left (r .ring) n k) r)); answer = Answer.Picture k true }) (noted k n r)
   unfolding noted fetched moved
   noted-last e = rw (note-is true e, left-is)
 
   pub noted-more : (finishing (r .scanner .state) && eqb (left (r .ring) n k .stored) 0) ≡ false
-      → _≡_ {A = AfterFetch} (record { next = heard k (withRing (left (r .ring) n k) r); answer = Fetched.Moved k false }) (noted k n r)
+      → _≡_ {A = After} (record { next = heard k (withRing (left (r .ring) n k) r); answer = Answer.Picture k false }) (noted k n r)
   unfolding noted fetched moved
   noted-more e = rw (note-is false e, left-is)
 

@@ -1,6 +1,6 @@
 // Fetch by name.
-use answers::AfterFetch;
-use answers::Fetched;
+use answers::After;
+use answers::Answer;
 use answers::Why;
 use rules::Record;
 use rules::Ring;
@@ -13,7 +13,7 @@ ghost use Rattle.rules.specs.Record.{idle, finishing};
 ghost use Rattle.rules.specs.Moves.{name, least};
 ghost use Rattle.rules.specs.Calls.{scan, Fetch};
 ghost use Rattle.rules.specs.Machine.{same, step};
-ghost use Rattle.answers.specs.Told.{stateOf, outcome, fetched};
+ghost use Rattle.answers.specs.Told.{stateOf, gave};
 ghost use Rattle.fetch.specs.Reply.{replyWith, noted};
 
 // Idle, or not the present name.
@@ -59,7 +59,7 @@ fn is_last(left: Ring, r: Record) -> bool
 }
 
 // Start moves on by k; the drain step follows the last byte.
-fn note(r: Record, len: usize, k: usize) -> AfterFetch
+fn note(r: Record, len: usize, k: usize) -> After
     requires { ⌜ (r .ring .start < len) × (r .ring .stored ≤ len) × (k ≤ r .ring .stored) × (k < 256) ⌝ }
     ensures { λ a. ⌜ a ≡ noted k len r ⌝ }
 {
@@ -67,18 +67,12 @@ fn note(r: Record, len: usize, k: usize) -> AfterFetch
     let left = ring::leave(was, len, k);
     let n = moves::hear(k, left, r);
     if is_last(left, r) {
-        return AfterFetch {
-            next: moves::drain(n),
-            answer: Fetched::Moved(k as u8, true),
-        };
+        return After::told(Answer::Picture(k as u8, true), moves::drain(n));
     }
-    AfterFetch {
-        next: n,
-        answer: Fetched::Moved(k as u8, false),
-    }
+    After::told(Answer::Picture(k as u8, false), n)
 }
 
-fn fetch_now(r: Record, ring: &[u8], most: u8, reply: &mut [u8]) -> AfterFetch
+fn fetch_now(r: Record, ring: &[u8], most: u8, reply: &mut [u8]) -> After
     requires { ⌜ (r .ring .start < length (now ring)) × (r .ring .stored ≤ length (now ring)) × (4 ≤ length (now reply)) ⌝ }
     ensures { λ a. ⌜ a ≡ noted (least (r .ring .stored) most (length (now (reply .entry)))) (length (now (ring .entry))) r ⌝ }
     ensures { λ a. ⌜ now (reply .exit)
@@ -91,27 +85,18 @@ fn fetch_now(r: Record, ring: &[u8], most: u8, reply: &mut [u8]) -> AfterFetch
     note(r, ring.len(), k)
 }
 
-pub fn fetch(r: Record, ring: &[u8], called: &[u8], most: u8, reply: &mut [u8]) -> AfterFetch
-    ensures { λ a. ⌜ outcome (fetched (now (reply .exit)) (a .answer)) (a .next) (now (ring .entry)) (now (reply .exit))
+pub fn fetch(r: Record, ring: &[u8], called: &[u8], most: u8, reply: &mut [u8]) -> After
+    ensures { λ a. ⌜ gave a (now (ring .entry)) (now (reply .exit))
         ≡ step (stateOf r (now (ring .entry))) (scan (Fetch (now (called .entry)) most (now (reply .entry)))) ⌝ }
 {
     if !state::sound_with(r, ring) {
-        return AfterFetch {
-            next: r,
-            answer: Fetched::Refused(Why::Unsound),
-        };
+        return After::refused(Why::Unsound, r);
     }
     if is_other(called, r) {
-        return AfterFetch {
-            next: r,
-            answer: Fetched::Refused(Why::OtherName),
-        };
+        return After::refused(Why::OtherName, r);
     }
     if reply.len() < 4 {
-        return AfterFetch {
-            next: r,
-            answer: Fetched::Refused(Why::NoRoom),
-        };
+        return After::refused(Why::NoRoom, r);
     }
     fetch_now(r, ring, most, reply)
 }

@@ -18,7 +18,7 @@ use Rattle.rules.specs.Machine.{scanEffect, feederEffect, reportEffect, effect,
 use Rattle.rules.proofs.Choice.{choice}
 use Rattle.rules.proofs.Answers.{by-step}
 use Rattle.rules.proofs.RingLaws.{length-queue}
-use Rattle.answers.specs.Told.{Told, nameRoom}
+use Rattle.name.specs.Spelled.{nameRoom}
 use Rattle.text.specs.Digits.{decimal, mostDigits, hexByte}
 use Rattle.text.proofs.Putting.{length-digits, length-hexes}
 use Rattle.line.specs.Line.{scanLetter, feedLetter, countText, failureText, lastText, extraOf, lineOf, lineFor, lineRoom}
@@ -69,13 +69,13 @@ row-length : (kind number job side count extra : List ℕ) (s f : ℕ) → lengt
     → length (kind ++ 32 ∷ (number ++ 32 ∷ s ∷ 32 ∷ f ∷ 32 ∷ (job ++ 32 ∷ (side ++ 32 ∷ (count ++ 32 ∷ (extra ++ 10 ∷ [])))))) ≤ lineRoom
 row-length kind number job side count extra s f a b c d e g = simp length-append (omega arith)
 
-pub line-bound : (kind : ℕ) (t : Told) (r : Record) → short (t .values) → length (lineOf kind t r) ≤ lineRoom
+pub line-bound : (kind number : ℕ) (v : Values) (r : Record) → short v → length (lineOf kind number v r) ≤ lineRoom
 unfolding lineOf
-line-bound kind t r h =
-    row-length (hexByte kind) (decimal (t .number)) (decimal (r .job .held)) (decimal (r .side .number)) (countText (r .side .count)) (extraOf (t .values))
+line-bound kind number v r h =
+    row-length (hexByte kind) (decimal number) (decimal (r .job .held)) (decimal (r .side .number)) (countText (r .side .count)) (extraOf v)
     (scanLetter (r .scanner .state)) (feedLetter (r .feeder .state))
-    (omega arith) (length-decimal (t .number)) (length-decimal (r .job .held)) (length-decimal (r .side .number)) (length-count (r .side .count))
-    (length-extra (t .values) h)
+    (omega arith) (length-decimal number) (length-decimal (r .job .held)) (length-decimal (r .side .number)) (length-count (r .side .count))
+    (length-extra v h)
 
 -- ---- what the rules report
 length-ten : (k n : ℕ) → length (digits k n) ≡ k
@@ -115,4 +115,4 @@ pub step-short : (s : State) (c : Call) → length (lent c) ≤ 259 → short (s
 step-short s c h = by-step (λ (o : Outcome). short (o .values)) s c (λ _. tt) (λ _ _ _ _. tt) (λ _. effect-short c s h)
 
 pub step-bound : (kind : ℕ) (s : State) (c : Call) → length (lent c) ≤ 259 → length (lineFor kind (step s c)) ≤ lineRoom
-step-bound kind s c h = line-bound kind _ (step s c .state .box) (step-short s c h)
+step-bound kind s c h = line-bound kind _ _ (step s c .state .box) (step-short s c h)

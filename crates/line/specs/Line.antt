@@ -9,7 +9,6 @@ use Rattle.rules.specs.declared.Failure.{Failure}
 use Rattle.rules.specs.declared.Record.{Record}
 use Rattle.rules.specs.Record.{negatives}
 use Rattle.rules.specs.Calls.{Values, nothing, time, destination, picture, state, sides, feeding, mode, stored, Outcome}
-use Rattle.answers.specs.Told.{Told}
 use Rattle.text.specs.Digits.{decimal, hexByte, hexes}
 
 -- I P S F E
@@ -60,16 +59,16 @@ extraOf (mode m) = modeText m
 extraOf (stored k) = decimal k
 
 -- kind, number, scan state, feeder state, job, SideNumber, SideCount, extra
-abbrev pub columns : ℕ → Told → Record → List (List ℕ)
-columns kind t r =
+abbrev pub columns : ℕ → ℕ → Values → Record → List (List ℕ)
+columns kind number v r =
     hexByte kind
-    ∷ decimal (t .number)
+    ∷ decimal number
     ∷ (scanLetter (r .scanner .state) ∷ [])
     ∷ (feedLetter (r .feeder .state) ∷ [])
     ∷ decimal (r .job .held)
     ∷ decimal (r .side .number)
     ∷ countText (r .side .count)
-    ∷ extraOf (t .values)
+    ∷ extraOf v
     ∷ []
 
 -- one space between, a newline at the end
@@ -78,13 +77,13 @@ joined [] = 10 ∷ []
 joined (c ∷ []) = c ++ 10 ∷ []
 joined (c ∷ d ∷ cs) = c ++ 32 ∷ joined (d ∷ cs)
 
--- what is told of a record's kind, and the record as it is left
-unfoldable pub lineOf : ℕ → Told → Record → List ℕ
-lineOf kind t r = joined (columns kind t r)
+-- a kind, the number and values told, and the record as it is left
+unfoldable pub lineOf : ℕ → ℕ → Values → Record → List ℕ
+lineOf kind number v r = joined (columns kind number v r)
 
 -- an outcome's line
 abbrev pub lineFor : ℕ → Outcome → List ℕ
-lineFor kind o = lineOf kind (record { number = o .number; values = o .values }) (o .state .box)
+lineFor kind o = lineOf kind (o .number) (o .values) (o .state .box)
 
 -- no line is longer (`step-bound`)
 abbrev pub lineRoom : ℕ

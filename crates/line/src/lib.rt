@@ -1,16 +1,14 @@
 // The desk's line for one answered record.
 mod extra;
 mod lent;
-mod number;
 
-use answers::Name;
-use calls::Answer;
+use answers::Answer;
 use rules::Feed;
 use rules::Record;
 use rules::Scan;
 ghost use mathlib.Core.Path.{_≡_};
 ghost use mathlib.Core.List.{[], _∷_, _++_};
-ghost use Rattle.calls.specs.Asked.{answered};
+ghost use Rattle.answers.specs.Told.{valuesTold};
 ghost use Rattle.text.specs.Digits.{decimal, hexByte};
 ghost use Rattle.text.specs.Put.{Puts};
 ghost use Rattle.line.specs.Line.{scanLetter, feedLetter, countText, lineOf};
@@ -98,32 +96,24 @@ fn put_counts(out: &mut [u8], at: usize, job: u32, side: u16, count: u32) -> usi
     text::put_byte(out, space, b' ')
 }
 
-// Where a line ends, and the number in it.
-pub struct Lined {
-    pub end: usize,
-    pub number: u16,
-}
-
+// The line of an answer with that number, and of the record that it leaves.
 pub fn put_line(
     out: &mut [u8],
     at: usize,
     kind: u8,
+    number: u16,
     r: Record,
-    name: Name,
     answer: Answer,
     reply: &[u8],
-) -> Lined
-    ensures { λ l. ⌜ Puts (now (out .entry)) at (lineOf kind (answered name (now (reply .entry)) answer) r) (l .end) (now (out .exit)) ⌝ }
-    ensures { λ l. ⌜ l .number ≡ answered name (now (reply .entry)) answer .number ⌝ }
+) -> usize
+    ensures { λ q. ⌜ Puts (now (out .entry)) at (lineOf kind number (valuesTold r (now (reply .entry)) answer) r) q (now (out .exit)) ⌝ }
 {
     let scanner = r.scanner;
     let feeder = r.feeder;
     let s = scanner.state;
     let f = feeder.state;
-    let number = number::number_of(answer);
     let counts = put_head(out, at, kind, number, s, f);
     let extra = put_counts(out, counts, r.job.held, r.side.number, r.side.count);
-    let last = extra::put_extra(out, extra, name, answer, reply);
-    let end = text::put_byte(out, last, b'\n');
-    Lined { end, number }
+    let last = extra::put_extra(out, extra, r, answer, reply);
+    text::put_byte(out, last, b'\n')
 }

@@ -1,11 +1,16 @@
 // The present Destination's name, and whether a name is it.
-use answers::Name;
 use rules::Record;
 ghost use mathlib.Core.Path.{_≡_};
 ghost use Prim.Native.Nat.{_+_, _%_};
 ghost use Rattle.rules.specs.Moves.{name};
 ghost use Rattle.rules.specs.Machine.{same};
-ghost use Rattle.answers.specs.Told.{padded};
+ghost use Rattle.name.specs.Spelled.{padded};
+
+// The bytes of a name and how many there are; unused bytes are 0.
+pub struct Name {
+    pub bytes: [u8; 18],
+    pub len: usize,
+}
 
 fn digit(n: u32) -> u8
     ensures { λ d. ⌜ d ≡ 48 + n % 10 ⌝ }

@@ -16,8 +16,9 @@ use Rattle.rules.proofs.Guards.{went-on, stopped-at}
 use Rattle.rules.proofs.Sound.{to-sound}
 use Rattle.ring.specs.Lent.{takes, putIn}
 use Rattle.answers.specs.declared.Why.{Why}
-use Rattle.answers.specs.declared.Stored.{Stored}
-use Rattle.answers.specs.Told.{stateOf, outcome, put}
+use Rattle.answers.specs.declared.Answer.{Answer}
+use Rattle.answers.specs.declared.After.{After}
+use Rattle.answers.specs.Told.{stateOf, gave}
 use Rattle.answers.proofs.Leads.{leads, accept, hit, skip, through-not}
 
 module _ (r : Record) (n k : ℕ) (t : Bool) (s : sound r n ≡ true) (e : t ≡ takes (r .ring) n k) where
@@ -40,16 +41,16 @@ module _ (r : Record) (n k : ℕ) (t : Bool) (s : sound r n ≡ true) (e : t ≡
 -- Bytes in a sound box that is Scanning, told by whether the ring took them, `t`
 module _ (r : Record) (ring bs : List ℕ) {s c t : Bool} (es : s ≡ sound r (length ring)) (hs : not s ≡ false)
     (ec : c ≡ scanning (r .scanner .state)) (hc : not c ≡ false) (et : t ≡ takes (r .ring) (length ring) (length bs)) where
-  pub told-full : {left : List ℕ} → left ≡ putIn ring (r .ring) bs → not t ≡ true
-      → outcome (put (Stored.Refused Why.NoRoom)) r left [] ≡ step (stateOf r ring) (report (Bytes bs))
+  pub told-full : {a : After} {left : List ℕ} → left ≡ putIn ring (r .ring) bs → not t ≡ true
+      → a ≡ record { next = r; answer = Answer.Refused Why.NoRoom } → gave a left [] ≡ step (stateOf r ring) (report (Bytes bs))
   unfolding step refusals reportRefusals effect reportEffect
-  told-full e h =
+  told-full e h f =
       let full = no-room r (length ring) (length bs) t (went-on _ s es hs) et h in
-      rw (e, stopped-at _ t et h) (leads (skip (through-not es hs) (skip (through-not ec hc) (hit full))))
+      rw (f, e, stopped-at _ t et h) (leads (skip (through-not es hs) (skip (through-not ec hc) (hit full))))
 
-  pub told-stored : {left : List ℕ} {n : Record} → left ≡ putIn ring (r .ring) bs → not t ≡ false → n ≡ filled (length bs) r
-      → outcome (put (Stored.Bytes (length bs))) n left [] ≡ step (stateOf r ring) (report (Bytes bs))
+  pub told-stored : {a : After} {n : Record} {left : List ℕ} → left ≡ putIn ring (r .ring) bs → not t ≡ false → n ≡ filled (length bs) r
+      → a ≡ record { next = n; answer = Answer.Stored (length bs) } → gave a left [] ≡ step (stateOf r ring) (report (Bytes bs))
   unfolding step refusals reportRefusals effect reportEffect
-  told-stored e h f =
+  told-stored e h f g =
       let room = some-room r (length ring) (length bs) t (went-on _ s es hs) et h in
-      rw (f, e, went-on _ t et h) (leads (skip (through-not es hs) (skip (through-not ec hc) (skip room accept))))
+      rw (g, f, e, went-on _ t et h) (leads (skip (through-not es hs) (skip (through-not ec hc) (skip room accept))))

@@ -7,8 +7,8 @@ use lib.ListN.{replicate}
 use Rattle.rules.specs.declared.Record.{Record}
 use Rattle.rules.specs.Calls.{Call, State, Outcome, report, Tick}
 use Rattle.rules.specs.Machine.{step, run, runBy}
-use Rattle.answers.specs.declared.AfterCall.{AfterCall}
-use Rattle.answers.specs.Told.{stateOf, outcome, done}
+use Rattle.answers.specs.declared.After.{After}
+use Rattle.answers.specs.Told.{stateOf, gave}
 
 abbrev pub after : State → ℕ → Record
 after s n = run s (replicate n (report Tick)) .end .box
@@ -27,7 +27,7 @@ begins r ring n =
     record { left = ap (after (stateOf r ring)) all }
 
 module _ {r last : Record} {ring : List ℕ} {n i : ℕ} (so : Passing r ring n last i) where
-  pub again : (a : AfterCall) → i < n → outcome (done (a .answer)) (a .next) ring [] ≡ step (stateOf last ring) (report Tick)
+  pub again : (a : After) → i < n → gave a ring [] ≡ step (stateOf last ring) (report Tick)
       → Passing r ring n (a .next) (i + 1)
   again a more told =
       let one : n - i ≡ suc (n - (i + 1)) = omega arith in

@@ -1,8 +1,6 @@
 // The five sensor reports; a second is a Tick.
-use answers::AfterBytes;
-use answers::AfterCall;
-use answers::Done;
-use answers::Stored;
+use answers::After;
+use answers::Answer;
 use answers::Why;
 use rules::Record;
 use rules::Ring;
@@ -14,7 +12,7 @@ ghost use Rattle.rules.specs.Moves.{withFeeder, filled};
 ghost use Rattle.rules.specs.Calls.{report, Bytes, SideEnded, Tray, Path, Tick};
 ghost use lib.ListN.{length as len, replicate};
 ghost use Rattle.rules.specs.Machine.{step, run};
-ghost use Rattle.answers.specs.Told.{stateOf, outcome, done, put};
+ghost use Rattle.answers.specs.Told.{stateOf, gave};
 
 // k bytes more are stored; a sign of life where that is 1 or more.
 fn fuller(k: usize, r: Record) -> Record
@@ -30,49 +28,37 @@ fn fuller(k: usize, r: Record) -> Record
 }
 
 // All into the ring or none.
-pub fn bytes(r: Record, ring: &mut [u8], given: &[u8]) -> AfterBytes
-    ensures { λ a. ⌜ outcome (put (a .answer)) (a .next) (now (ring .exit)) [] ≡ step (stateOf r (now (ring .entry))) (report (Bytes (now (given .entry)))) ⌝ }
+pub fn bytes(r: Record, ring: &mut [u8], given: &[u8]) -> After
+    ensures { λ a. ⌜ gave a (now (ring .exit)) [] ≡ step (stateOf r (now (ring .entry))) (report (Bytes (now (given .entry)))) ⌝ }
 {
     let c = r.scanner;
     let s = c.state;
     let g = r.ring;
     if !state::is_sound(r, ring.len()) {
-        return AfterBytes {
-            next: r,
-            answer: Stored::Refused(Why::Unsound),
-        };
+        return After::refused(Why::Unsound, r);
     }
     if !state::scan::is_scanning(s) {
-        return AfterBytes {
-            next: r,
-            answer: Stored::Refused(Why::WrongState),
-        };
+        return After::refused(Why::WrongState, r);
     }
     if !ring::put_in(ring, g, given) {
-        return AfterBytes {
-            next: r,
-            answer: Stored::Refused(Why::NoRoom),
-        };
+        return After::refused(Why::NoRoom, r);
     }
     let k = given.len();
-    AfterBytes {
-        next: fuller(k, r),
-        answer: Stored::Bytes(k),
-    }
+    After::told(Answer::Stored(k), fuller(k, r))
 }
 
-pub fn side_ended(r: Record, ring: &[u8]) -> AfterCall
-    ensures { λ a. ⌜ outcome (done (a .answer)) (a .next) (now (ring .entry)) [] ≡ step (stateOf r (now (ring .entry))) (report SideEnded) ⌝ }
+pub fn side_ended(r: Record, ring: &[u8]) -> After
+    ensures { λ a. ⌜ gave a (now (ring .entry)) [] ≡ step (stateOf r (now (ring .entry))) (report SideEnded) ⌝ }
 {
     let c = r.scanner;
     let s = c.state;
     if !state::sound_with(r, ring) {
-        return AfterCall::told(Done::Refused(Why::Unsound), r);
+        return After::refused(Why::Unsound, r);
     }
     if !state::scan::is_scanning(s) {
-        return AfterCall::told(Done::Refused(Why::WrongState), r);
+        return After::refused(Why::WrongState, r);
     }
-    AfterCall::told(Done::Accepted, sensors::end_side(r))
+    After::done(sensors::end_side(r))
 }
 
 fn with_tray(value: u8, r: Record) -> Record
@@ -82,42 +68,42 @@ fn with_tray(value: u8, r: Record) -> Record
     moves::with_feeder(feeding::set_tray(value, f), r)
 }
 
-pub fn tray(r: Record, ring: &[u8], value: u8) -> AfterCall
-    ensures { λ a. ⌜ outcome (done (a .answer)) (a .next) (now (ring .entry)) [] ≡ step (stateOf r (now (ring .entry))) (report (Tray value)) ⌝ }
+pub fn tray(r: Record, ring: &[u8], value: u8) -> After
+    ensures { λ a. ⌜ gave a (now (ring .entry)) [] ≡ step (stateOf r (now (ring .entry))) (report (Tray value)) ⌝ }
 {
     if !state::sound_with(r, ring) {
-        return AfterCall::told(Done::Refused(Why::Unsound), r);
+        return After::refused(Why::Unsound, r);
     }
     if !state::asked::is_marked(value) {
-        return AfterCall::told(Done::Refused(Why::Unlisted), r);
+        return After::refused(Why::Unlisted, r);
     }
-    AfterCall::told(Done::Accepted, with_tray(value, r))
+    After::done(with_tray(value, r))
 }
 
-pub fn path(r: Record, ring: &[u8], value: u8) -> AfterCall
-    ensures { λ a. ⌜ outcome (done (a .answer)) (a .next) (now (ring .entry)) [] ≡ step (stateOf r (now (ring .entry))) (report (Path value)) ⌝ }
+pub fn path(r: Record, ring: &[u8], value: u8) -> After
+    ensures { λ a. ⌜ gave a (now (ring .entry)) [] ≡ step (stateOf r (now (ring .entry))) (report (Path value)) ⌝ }
 {
     if !state::sound_with(r, ring) {
-        return AfterCall::told(Done::Refused(Why::Unsound), r);
+        return After::refused(Why::Unsound, r);
     }
     if !state::asked::is_marked(value) {
-        return AfterCall::told(Done::Refused(Why::Unlisted), r);
+        return After::refused(Why::Unlisted, r);
     }
-    AfterCall::told(Done::Accepted, sensors::set_path(value, r))
+    After::done(sensors::set_path(value, r))
 }
 
 // What a ring's bytes are matters to no second, only how many they are.
-pub fn tick_in(r: Record, length: usize) -> AfterCall
-    ensures { λ a. ⌜ ((ring : List ℕ) → len ring ≡ length → outcome (done (a .answer)) (a .next) ring [] ≡ step (stateOf r ring) (report Tick)) ⌝ }
+pub fn tick_in(r: Record, length: usize) -> After
+    ensures { λ a. ⌜ ((ring : List ℕ) → len ring ≡ length → gave a ring [] ≡ step (stateOf r ring) (report Tick)) ⌝ }
 {
     if !state::is_sound(r, length) {
-        return AfterCall::told(Done::Refused(Why::Unsound), r);
+        return After::refused(Why::Unsound, r);
     }
-    AfterCall::told(Done::Accepted, sensors::tick(r))
+    After::done(sensors::tick(r))
 }
 
-pub fn tick(r: Record, ring: &[u8]) -> AfterCall
-    ensures { λ a. ⌜ outcome (done (a .answer)) (a .next) (now (ring .entry)) [] ≡ step (stateOf r (now (ring .entry))) (report Tick) ⌝ }
+pub fn tick(r: Record, ring: &[u8]) -> After
+    ensures { λ a. ⌜ gave a (now (ring .entry)) [] ≡ step (stateOf r (now (ring .entry))) (report Tick) ⌝ }
 {
     tick_in(r, ring.len())
 }

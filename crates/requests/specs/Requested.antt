@@ -5,7 +5,7 @@ use mathlib.Core.List.{List, [], _∷_}
 use lib.Dec.{eqb, ltb}
 use lib.ListN.{drop}
 use Rattle.records.specs.Reading.{number}
-use Rattle.calls.specs.declared.Request.{Request}
+use Rattle.answers.specs.declared.Request.{Request}
 use Rattle.requests.specs.declared.Asking.{Asking}
 
 -- a number of one, two or four bytes at a place of the payload

@@ -1,5 +1,5 @@
 // A desk record's payload as a request. A byte that is not there counts as 0; the table of kinds admits no such payload.
-use calls::Request;
+use answers::Request;
 ghost use mathlib.Core.Path.{_≡_};
 ghost use Prim.Native.Nat.{_<_};
 ghost use Rattle.requests.specs.Requested.{byteAt, wordAt, longAt, extended, askingOf, givenOf};

@@ -6,7 +6,7 @@ use mathlib.Core.List.{List, _++_}
 use native.Mathlib.Omega.{arith}
 use lib.ListN.{length, take, drop, length-drop}
 use lib.Seq.{drop-append-le, take-append-le}
-use Rattle.calls.specs.declared.Request.{Request}
+use Rattle.answers.specs.declared.Request.{Request}
 use Rattle.records.specs.declared.Front.{Front}
 use Rattle.records.specs.declared.Reading.{Reading}
 use Rattle.records.specs.Reading.{secondMark, lengthWidth, headOf, front, placed, readWith, readAt, cut, partOf}

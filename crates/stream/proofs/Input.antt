@@ -6,7 +6,7 @@ use native.Mathlib.Omega.{arith}
 use lib.ListN.{length, drop}
 use Rattle.rules.specs.Calls.{Call, State}
 use Rattle.rules.specs.Machine.{step, runBy, run}
-use Rattle.calls.specs.declared.Request.{Request}
+use Rattle.answers.specs.declared.Request.{Request}
 use Rattle.line.specs.Line.{lineFor}
 use Rattle.stream.specs.Desk.{Heard, asks, wrong, heard, callOf, Input, ends, before, badAt, readOn, readFrom, badText, endText, linesOf, printed}
 

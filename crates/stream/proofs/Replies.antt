@@ -16,8 +16,8 @@ use Rattle.text.specs.Put.{Puts}
 use Rattle.text.proofs.Putting.{moved}
 use Rattle.line.specs.Line.{lineOf, lineFor}
 use Rattle.calls.specs.declared.Answer.{Answer}
-use Rattle.calls.specs.declared.Request.{Request}
-use Rattle.calls.specs.Asked.{asked, answered}
+use Rattle.answers.specs.declared.Request.{Request}
+use Rattle.answers.specs.Asked.{asked, answered}
 use Rattle.stream.specs.Desk.{replyRoom, callWith, callOf}
 
 -- an outcome but for the reply

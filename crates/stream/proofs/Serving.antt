@@ -13,7 +13,7 @@ use Rattle.rules.specs.declared.Record.{Record}
 use Rattle.rules.specs.Calls.{State}
 use Rattle.rules.specs.Machine.{step}
 use Rattle.answers.specs.Told.{stateOf}
-use Rattle.calls.specs.declared.Request.{Request}
+use Rattle.answers.specs.declared.Request.{Request}
 use Rattle.text.specs.Put.{Puts}
 use Rattle.text.specs.Digits.{mostDigits}
 use Rattle.text.proofs.Putting.{put-none, then, moved, size, whole-next, whole-stands, length-digits}

@@ -6,7 +6,7 @@ use mathlib.Core.List.{List, [], _∷_}
 use native.Mathlib.Omega.{arith}
 use lib.ListN.{length, drop}
 use Rattle.rules.specs.Machine.{step}
-use Rattle.calls.specs.declared.Request.{Request}
+use Rattle.answers.specs.declared.Request.{Request}
 use Rattle.stream.specs.Desk.{Heard, asks, wrong, heard, callOf}
 use Rattle.stream.specs.Window.{Progress, answered, broken, waits, turned, roomy, served}
 

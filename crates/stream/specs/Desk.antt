@@ -4,8 +4,8 @@ use mathlib.Core.List.{List, [], _∷_, _++_}
 use lib.ListN.{take, drop, replicate}
 use Rattle.rules.specs.Calls.{Call, State, Outcome}
 use Rattle.rules.specs.Machine.{run, start}
-use Rattle.calls.specs.declared.Request.{Request}
-use Rattle.calls.specs.Asked.{asked}
+use Rattle.answers.specs.declared.Request.{Request}
+use Rattle.answers.specs.Asked.{asked}
 use Rattle.text.specs.Digits.{decimal}
 use Rattle.records.specs.declared.Front.{Front}
 use Rattle.records.specs.Reading.{secondMark, lengthWidth, headOf, front}

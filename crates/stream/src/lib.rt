@@ -1,5 +1,5 @@
 // A window of the desk's input, answered record by record into a lent buffer.
-use calls::Request;
+use answers::Request;
 use records::Reading;
 use requests::Asking;
 use rules::Record;
@@ -11,7 +11,7 @@ ghost use lib.Dec.{leb};
 ghost use lib.ListN.{length};
 ghost use Rattle.rules.specs.Machine.{step};
 ghost use Rattle.answers.specs.Told.{stateOf};
-ghost use Rattle.calls.specs.Asked.{asked, kindOf, replied};
+ghost use Rattle.answers.specs.Asked.{asked, kindOf, replied};
 ghost use Rattle.text.specs.Put.{Puts};
 ghost use Rattle.records.specs.Reading.{cutAt};
 ghost use Rattle.line.specs.Line.{lineFor, lineRoom};

@@ -8,42 +8,42 @@ use Rattle.feeder.proofs.load.Tie as tie
 sound-with-requires : tie.Need-sound-with-requires
 sound-with-requires c κs = search needs
 
-told-requires : tie.Need-told-requires
-told-requires c κs = search needs
+refused-requires : tie.Need-refused-requires
+refused-requires c κs = search needs
 
 returns : tie.Need-returns
 unfolding step refusals feederRefusals effect feederEffect
-returns c = rw (c .told .ensures) (leads (hit (search tests)))
+returns c = rw (c .refused .ensures) (leads (hit (search tests)))
 
 not-ours-requires : tie.Need-not-ours-requires
 not-ours-requires c κs = search needs
 
-told-requires-2 : tie.Need-told-requires-2
-told-requires-2 c κs = search needs
+refused-requires-2 : tie.Need-refused-requires-2
+refused-requires-2 c κs = search needs
 
 returns-2 : tie.Need-returns-2
 unfolding step refusals feederRefusals effect feederEffect
-returns-2 c = rw (c .told2 .ensures) (leads (skip (search tests) (hit (search tests))))
+returns-2 c = rw (c .refused2 .ensures) (leads (skip (search tests) (hit (search tests))))
 
 is-busy-requires : tie.Need-is-busy-requires
 is-busy-requires c κs = search needs
 
-told-requires-3 : tie.Need-told-requires-3
-told-requires-3 c κs = search needs
+refused-requires-3 : tie.Need-refused-requires-3
+refused-requires-3 c κs = search needs
 
 returns-3 : tie.Need-returns-3
 unfolding step refusals feederRefusals effect feederEffect
-returns-3 c = rw (c .told3 .ensures) (leads (skip (search tests) (skip (search tests) (hit (search tests)))))
+returns-3 c = rw (c .refused3 .ensures) (leads (skip (search tests) (skip (search tests) (hit (search tests)))))
 
 is-erred-requires : tie.Need-is-erred-requires
 is-erred-requires c κs = search needs
 
-told-requires-4 : tie.Need-told-requires-4
-told-requires-4 c κs = search needs
+refused-requires-4 : tie.Need-refused-requires-4
+refused-requires-4 c κs = search needs
 
 returns-4 : tie.Need-returns-4
 unfolding step refusals feederRefusals effect feederEffect
-returns-4 c = rw (c .told4 .ensures) (leads (skip (search tests) (skip (search tests) (skip (search tests) (hit (search tests))))))
+returns-4 c = rw (c .refused4 .ensures) (leads (skip (search tests) (skip (search tests) (skip (search tests) (hit (search tests))))))
 
 is-loadless-requires : tie.Need-is-loadless-requires
 is-loadless-requires c κs = search needs
@@ -51,8 +51,8 @@ is-loadless-requires c κs = search needs
 unloaded-requires : tie.Need-unloaded-requires
 unloaded-requires c κs = search needs
 
-told-requires-5 : tie.Need-told-requires-5
-told-requires-5 c κs = search needs
+refused-requires-5 : tie.Need-refused-requires-5
+refused-requires-5 c κs = search needs
 
 returns-5 : tie.Need-returns-5
 unfolding step refusals feederRefusals effect feederEffect
@@ -67,13 +67,13 @@ returns-5 c =
     let is-busy = through (third .before .is-busy .ensures) (third .if3 .left) in
     let is-erred = through (fourth .before .is-erred .ensures) (fourth .if4 .left) in
     let is-loadless = through (fifth .before .is-loadless .ensures) (fifth .if5 .taken) in
-    rw (c .told5 .ensures, c .before .unloaded .ensures) (leads (skip sound-with (skip not-ours (skip is-busy (skip is-erred (hit-leaving is-loadless))))))
+    rw (c .refused5 .ensures, c .before .unloaded .ensures) (leads (skip sound-with (skip not-ours (skip is-busy (skip is-erred (hit-leaving is-loadless))))))
 
 loaded-requires : tie.Need-loaded-requires
 loaded-requires c κs = search needs
 
-told-requires-6 : tie.Need-told-requires-6
-told-requires-6 c κs = search needs
+done-requires : tie.Need-done-requires
+done-requires c κs = search needs
 
 returns-6 : tie.Need-returns-6
 unfolding step refusals feederRefusals effect feederEffect
@@ -88,7 +88,7 @@ returns-6 c =
     let is-busy = through (third .before .is-busy .ensures) (third .if3 .left) in
     let is-erred = through (fourth .before .is-erred .ensures) (fourth .if4 .left) in
     let is-loadless = through (fifth .before .is-loadless .ensures) (fifth .if5 .left) in
-    rw (c .told6 .ensures, c .before .loaded .ensures)
+    rw (c .done .ensures, c .before .loaded .ensures)
     (leads (skip sound-with (skip not-ours (skip is-busy (skip is-erred (skip-leaving is-loadless accept))))))
 
 pub load-spec : {M : Type 1} → statement M
@@ -96,21 +96,21 @@ load-spec =
     tie.close
     (tie.spec
     sound-with-requires
-    told-requires
+    refused-requires
     returns
     not-ours-requires
-    told-requires-2
+    refused-requires-2
     returns-2
     is-busy-requires
-    told-requires-3
+    refused-requires-3
     returns-3
     is-erred-requires
-    told-requires-4
+    refused-requires-4
     returns-4
     is-loadless-requires
     unloaded-requires
-    told-requires-5
+    refused-requires-5
     returns-5
     loaded-requires
-    told-requires-6
+    done-requires
     returns-6)

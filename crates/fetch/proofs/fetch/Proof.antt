@@ -1,31 +1,40 @@
--- `fetch::fetch`: each return walks the call's refusals up to the test that answered (`Leads`); what is left is the effect (`Handed`).
+-- Each return walks the call's refusals up to the test that answered (`Leads`); what is left is the effect (`Handed`).
 use mathlib.Core.Path.{_∙_}
-use borrow.Author.Needs.{needs}
 use Rattle.fetch.proofs.Handed.{handed}
 use Rattle.rules.proofs.Sound.{to-sound}
 use Rattle.rules.proofs.Guards.{went-on}
 use Rattle.answers.proofs.Leads.{leads, accept, hit, skip, tests}
 use Rattle.rules.specs.Machine.{step, refusals, scanRefusals, effect, scanEffect}
+use borrow.Author.Needs.{needs}
 use Rattle.fetch.proofs.fetch.Statement.{statement}
 use Rattle.fetch.proofs.fetch.Tie as tie
 
 sound-with-requires : tie.Need-sound-with-requires
 sound-with-requires c κs = search needs
 
+refused-requires : tie.Need-refused-requires
+refused-requires c κs = search needs
+
 returns : tie.Need-returns
 unfolding step refusals scanRefusals effect scanEffect
-returns c = leads (hit (search tests))
+returns c = rw (c .refused .ensures) (leads (hit (search tests)))
 
 is-other-requires : tie.Need-is-other-requires
 is-other-requires c κs = search needs
 
+refused-requires-2 : tie.Need-refused-requires-2
+refused-requires-2 c κs = search needs
+
 returns-2 : tie.Need-returns-2
 unfolding step refusals scanRefusals effect scanEffect
-returns-2 c = leads (skip (search tests) (hit (search tests)))
+returns-2 c = rw (c .refused2 .ensures) (leads (skip (search tests) (hit (search tests))))
+
+refused-requires-3 : tie.Need-refused-requires-3
+refused-requires-3 c κs = search needs
 
 returns-3 : tie.Need-returns-3
 unfolding step refusals scanRefusals effect scanEffect
-returns-3 c = leads (skip (search tests) (skip (search tests) (hit (search tests))))
+returns-3 c = rw (c .refused3 .ensures) (leads (skip (search tests) (skip (search tests) (hit (search tests)))))
 
 fetch-now-requires : tie.Need-fetch-now-requires
 fetch-now-requires c κs =
@@ -48,9 +57,12 @@ fetch-spec =
     tie.close
     (tie.spec
     sound-with-requires
+    refused-requires
     returns
     is-other-requires
+    refused-requires-2
     returns-2
+    refused-requires-3
     returns-3
     fetch-now-requires
     same-length

@@ -1,12 +1,8 @@
--- `line::put_line`: one part behind the other, and the parts in a row are the line (`Lines`).
-use mathlib.Core.Path.{_∙_}
+-- One part behind the other, and the parts in a row are the line (`Lines`).
+use Rattle.line.proofs.Lines.{line-put}
 use borrow.Author.Needs.{needs}
-use Rattle.line.proofs.Lines.{line-put, same-number}
 use Rattle.line.proofs.put_line.Statement.{statement}
 use Rattle.line.proofs.put_line.Tie as tie
-
-number-of-requires : tie.Need-number-of-requires
-number-of-requires c κs = search needs
 
 put-head-requires : tie.Need-put-head-requires
 put-head-requires c κs = search needs
@@ -29,18 +25,12 @@ returns c =
     let extra = end .before .before .before .before in
     let counts = extra .before .before .before .before in
     let head = counts .before .before .before .before in
-    let number = head .before .before in
-    let a = number .before .before .before .before .before .args in (
-      line-put (a .kind) _ (a .name) (a .reply .now) (a .answer) (a .r) (number .number-of .ensures) (head .put-head .ensures)
-          (counts .put-counts .ensures) (extra .put-extra .ensures) (end .put-byte .ensures),
-      number .number-of .ensures ∙ same-number (a .name) (a .reply .now) (a .answer),
-    )
+    line-put _ _ _ _ (head .put-head .ensures) (counts .put-counts .ensures) (extra .put-extra .ensures) (end .put-byte .ensures)
 
 pub put-line-spec : {M : Type 1} → statement M
 put-line-spec =
     tie.close
     (tie.spec
-    number-of-requires
     put-head-requires
     put-counts-requires
     put-extra-requires

@@ -2,7 +2,7 @@
 use mathlib.Core.Path.{sym}
 use borrow.Author.Needs.{needs}
 use lib.Seq.{length-take-le}
-use Rattle.answers.proofs.Padded.{padded-inside, padded-spelled}
+use Rattle.name.proofs.Padded.{padded-inside, padded-spelled}
 use Rattle.name.proofs.is_present.Statement.{statement}
 use Rattle.name.proofs.is_present.Tie as tie
 

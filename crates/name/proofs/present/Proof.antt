@@ -1,7 +1,7 @@
 -- `name::present`: the test decides which value the definition takes.
 use borrow.Author.Tests.{eq-eqb, ne-eqb}
 use borrow.Author.Needs.{needs}
-use Rattle.answers.specs.Told.{padded}
+use Rattle.name.specs.Spelled.{padded}
 use Rattle.rules.specs.Moves.{name}
 use Rattle.name.proofs.present.Statement.{statement}
 use Rattle.name.proofs.present.Tie as tie

@@ -8,43 +8,43 @@ use Rattle.report.proofs.path.Tie as tie
 sound-with-requires : tie.Need-sound-with-requires
 sound-with-requires c κs = search needs
 
-told-requires : tie.Need-told-requires
-told-requires c κs = search needs
+refused-requires : tie.Need-refused-requires
+refused-requires c κs = search needs
 
 returns : tie.Need-returns
 unfolding step refusals reportRefusals effect reportEffect
-returns c = rw (c .told .ensures) (leads (hit (search tests)))
+returns c = rw (c .refused .ensures) (leads (hit (search tests)))
 
 is-marked-requires : tie.Need-is-marked-requires
 is-marked-requires c κs = search needs
 
-told-requires-2 : tie.Need-told-requires-2
-told-requires-2 c κs = search needs
+refused-requires-2 : tie.Need-refused-requires-2
+refused-requires-2 c κs = search needs
 
 returns-2 : tie.Need-returns-2
 unfolding step refusals reportRefusals effect reportEffect
-returns-2 c = rw (c .told2 .ensures) (leads (skip (search tests) (hit (search tests))))
+returns-2 c = rw (c .refused2 .ensures) (leads (skip (search tests) (hit (search tests))))
 
 set-path-requires : tie.Need-set-path-requires
 set-path-requires c κs = search needs
 
-told-requires-3 : tie.Need-told-requires-3
-told-requires-3 c κs = search needs
+done-requires : tie.Need-done-requires
+done-requires c κs = search needs
 
 returns-3 : tie.Need-returns-3
 unfolding step refusals reportRefusals effect reportEffect
-returns-3 c = rw (c .told3 .ensures, c .before .set-path .ensures) (leads (skip (search tests) (skip (search tests) accept)))
+returns-3 c = rw (c .done .ensures, c .before .set-path .ensures) (leads (skip (search tests) (skip (search tests) accept)))
 
 pub path-spec : {M : Type 1} → statement M
 path-spec =
     tie.close
     (tie.spec
     sound-with-requires
-    told-requires
+    refused-requires
     returns
     is-marked-requires
-    told-requires-2
+    refused-requires-2
     returns-2
     set-path-requires
-    told-requires-3
+    done-requires
     returns-3)

@@ -8,24 +8,24 @@ use Rattle.report.proofs.tick_in.Tie as tie
 is-sound-requires : tie.Need-is-sound-requires
 is-sound-requires c κs = search needs
 
-told-requires : tie.Need-told-requires
-told-requires c κs = search needs
+refused-requires : tie.Need-refused-requires
+refused-requires c κs = search needs
 
 returns : tie.Need-returns
 unfolding step refusals reportRefusals effect reportEffect
-returns c = λ ring long. rw (c .told .ensures, long) (leads (hit (search tests)))
+returns c = λ ring long. rw (c .refused .ensures, long) (leads (hit (search tests)))
 
 tick-requires : tie.Need-tick-requires
 tick-requires c κs = search needs
 
-told-requires-2 : tie.Need-told-requires-2
-told-requires-2 c κs = search needs
+done-requires : tie.Need-done-requires
+done-requires c κs = search needs
 
 returns-2 : tie.Need-returns-2
 unfolding step refusals reportRefusals effect reportEffect
-returns-2 c = λ ring long. rw (c .told2 .ensures, c .before .tick .ensures, long) (leads (skip (search tests) accept))
+returns-2 c = λ ring long. rw (c .done .ensures, c .before .tick .ensures, long) (leads (skip (search tests) accept))
 
 pub tick-in-spec : {M : Type 1} → statement M
 tick-in-spec =
     tie.close
-    (tie.spec is-sound-requires told-requires returns tick-requires told-requires-2 returns-2)
+    (tie.spec is-sound-requires refused-requires returns tick-requires done-requires returns-2)

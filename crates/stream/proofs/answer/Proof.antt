@@ -1,7 +1,7 @@
 -- The call's outcome, whatever the reply held, and its line.
 use Rattle.rules.specs.Calls.{lent}
 use Rattle.answers.specs.Told.{stateOf}
-use Rattle.calls.specs.Asked.{asked}
+use Rattle.answers.specs.Asked.{asked}
 use Rattle.stream.proofs.Replies.{answered-state, answered-line, answered-number}
 use borrow.Author.Needs.{needs}
 use Rattle.stream.proofs.answer.Statement.{statement}

@@ -1,6 +1,5 @@
--- `line::extra::put_extra`: in each arm the text of its case.
+-- In each arm the text of its case.
 use borrow.Author.Needs.{needs}
-use Rattle.line.proofs.Lines.{done-silent, sides-silent}
 use Rattle.line.proofs.extra.put_extra.Statement.{statement}
 use Rattle.line.proofs.extra.put_extra.Tie as tie
 
@@ -13,26 +12,29 @@ put-byte-requires c κs = search needs
 enum-known-answer : tie.Need-enum-known-answer
 enum-known-answer c = search needs
 
-put-granting-requires : tie.Need-put-granting-requires
-put-granting-requires c κs = search needs
+cast-put-decimal : tie.Need-cast-put-decimal
+cast-put-decimal c = search needs
+
+put-decimal-requires : tie.Need-put-decimal-requires
+put-decimal-requires c κs = search needs
 
 enum-known-answer-2 : tie.Need-enum-known-answer-2
 enum-known-answer-2 c = search needs
 
-put-found-requires : tie.Need-put-found-requires
-put-found-requires c κs = search needs
+put-destination-requires : tie.Need-put-destination-requires
+put-destination-requires c κs = search needs
 
 enum-known-answer-3 : tie.Need-enum-known-answer-3
 enum-known-answer-3 c = search needs
 
-put-fetched-requires : tie.Need-put-fetched-requires
-put-fetched-requires c κs = search needs
+put-picture-requires : tie.Need-put-picture-requires
+put-picture-requires c κs = search needs
 
 enum-known-answer-4 : tie.Need-enum-known-answer-4
 enum-known-answer-4 c = search needs
 
-put-standing-requires : tie.Need-put-standing-requires
-put-standing-requires c κs = search needs
+put-failure-requires : tie.Need-put-failure-requires
+put-failure-requires c κs = search needs
 
 enum-told-2 : tie.Need-enum-told-2
 enum-told-2 c = search needs
@@ -43,20 +45,29 @@ put-byte-requires-2 c κs = search needs
 enum-known-answer-5 : tie.Need-enum-known-answer-5
 enum-known-answer-5 c = search needs
 
-put-feeding-requires : tie.Need-put-feeding-requires
-put-feeding-requires c κs = search needs
+put-tray-requires : tie.Need-put-tray-requires
+put-tray-requires c κs = search needs
+
+enum-told-3 : tie.Need-enum-told-3
+enum-told-3 c = search needs
+
+slice-aggregate-put-bytes : tie.Need-slice-aggregate-put-bytes
+slice-aggregate-put-bytes c = search needs
+
+put-bytes-requires : tie.Need-put-bytes-requires
+put-bytes-requires c κs = search needs
 
 enum-known-answer-6 : tie.Need-enum-known-answer-6
 enum-known-answer-6 c = search needs
 
-put-mode-requires : tie.Need-put-mode-requires
-put-mode-requires c κs = search needs
+put-decimal-requires-2 : tie.Need-put-decimal-requires-2
+put-decimal-requires-2 c κs = search needs
 
-enum-known-answer-7 : tie.Need-enum-known-answer-7
-enum-known-answer-7 c = search needs
+enum-told-4 : tie.Need-enum-told-4
+enum-told-4 c = search needs
 
-put-stored-requires : tie.Need-put-stored-requires
-put-stored-requires c κs = search needs
+put-byte-requires-3 : tie.Need-put-byte-requires-3
+put-byte-requires-3 c κs = search needs
 
 same-length : tie.Need-same-length
 same-length c = search needs
@@ -64,7 +75,7 @@ same-length c = search needs
 returns : tie.Need-returns
 returns c =
     let put = c .before .before in
-    rw (put .before .before .enum-told .given .1, done-silent) (put .put-byte .ensures)
+    rw (put .before .before .enum-told .given .1) (put .put-byte .ensures)
 
 same-length-2 : tie.Need-same-length-2
 same-length-2 c = search needs
@@ -72,7 +83,7 @@ same-length-2 c = search needs
 returns-2 : tie.Need-returns-2
 returns-2 c =
     let put = c .before .before in
-    rw (put .before .before .before .answer .given .1) (put .put-granting .ensures)
+    rw (put .before .before .before .answer .given .1) (put .put-decimal .ensures)
 
 same-length-3 : tie.Need-same-length-3
 same-length-3 c = search needs
@@ -80,7 +91,7 @@ same-length-3 c = search needs
 returns-3 : tie.Need-returns-3
 returns-3 c =
     let put = c .before .before in
-    rw (put .before .before .before .answer2 .given .1) (put .put-found .ensures)
+    rw (put .before .before .before .answer2 .given .1) (put .put-destination .ensures)
 
 same-length-4 : tie.Need-same-length-4
 same-length-4 c = search needs
@@ -88,7 +99,7 @@ same-length-4 c = search needs
 returns-4 : tie.Need-returns-4
 returns-4 c =
     let put = c .before .before in
-    rw (put .before .before .before .answer3 .given .1) (put .put-fetched .ensures)
+    rw (put .before .before .before .answer3 .given .1) (put .put-picture .ensures)
 
 same-length-5 : tie.Need-same-length-5
 same-length-5 c = search needs
@@ -96,7 +107,7 @@ same-length-5 c = search needs
 returns-5 : tie.Need-returns-5
 returns-5 c =
     let put = c .before .before in
-    rw (put .before .before .before .answer4 .given .1) (put .put-standing .ensures)
+    rw (put .before .before .before .answer4 .given .1) (put .put-failure .ensures)
 
 same-length-6 : tie.Need-same-length-6
 same-length-6 c = search needs
@@ -104,7 +115,7 @@ same-length-6 c = search needs
 returns-6 : tie.Need-returns-6
 returns-6 c =
     let put = c .before .before in
-    rw (put .before .before .enum-told2 .given .1, sides-silent) (put .put-byte2 .ensures)
+    rw (put .before .before .enum-told2 .given .1) (put .put-byte2 .ensures)
 
 same-length-7 : tie.Need-same-length-7
 same-length-7 c = search needs
@@ -112,7 +123,7 @@ same-length-7 c = search needs
 returns-7 : tie.Need-returns-7
 returns-7 c =
     let put = c .before .before in
-    rw (put .before .before .before .answer5 .given .1) (put .put-feeding .ensures)
+    rw (put .before .before .before .answer5 .given .1) (put .put-tray .ensures)
 
 same-length-8 : tie.Need-same-length-8
 same-length-8 c = search needs
@@ -120,7 +131,7 @@ same-length-8 c = search needs
 returns-8 : tie.Need-returns-8
 returns-8 c =
     let put = c .before .before in
-    rw (put .before .before .before .answer6 .given .1) (put .put-mode .ensures)
+    rw (put .before .before .before .enum-told3 .given .1) (put .put-bytes .ensures)
 
 same-length-9 : tie.Need-same-length-9
 same-length-9 c = search needs
@@ -128,7 +139,15 @@ same-length-9 c = search needs
 returns-9 : tie.Need-returns-9
 returns-9 c =
     let put = c .before .before in
-    rw (put .before .before .before .answer7 .given .1) (put .put-stored .ensures)
+    rw (put .before .before .before .answer6 .given .1) (put .put-decimal2 .ensures)
+
+same-length-10 : tie.Need-same-length-10
+same-length-10 c = search needs
+
+returns-10 : tie.Need-returns-10
+returns-10 c =
+    let put = c .before .before in
+    rw (put .before .before .enum-told4 .given .1) (put .put-byte3 .ensures)
 
 pub put-extra-spec : {M : Type 1} → statement M
 put-extra-spec =
@@ -137,21 +156,25 @@ put-extra-spec =
     enum-told
     put-byte-requires
     enum-known-answer
-    put-granting-requires
+    cast-put-decimal
+    put-decimal-requires
     enum-known-answer-2
-    put-found-requires
+    put-destination-requires
     enum-known-answer-3
-    put-fetched-requires
+    put-picture-requires
     enum-known-answer-4
-    put-standing-requires
+    put-failure-requires
     enum-told-2
     put-byte-requires-2
     enum-known-answer-5
-    put-feeding-requires
+    put-tray-requires
+    enum-told-3
+    slice-aggregate-put-bytes
+    put-bytes-requires
     enum-known-answer-6
-    put-mode-requires
-    enum-known-answer-7
-    put-stored-requires
+    put-decimal-requires-2
+    enum-told-4
+    put-byte-requires-3
     same-length
     returns
     same-length-2
@@ -169,4 +192,6 @@ put-extra-spec =
     same-length-8
     returns-8
     same-length-9
-    returns-9)
+    returns-9
+    same-length-10
+    returns-10)

@@ -1,4 +1,4 @@
--- `scan::begin::all_listed`: the callees' equations, one after the other.
+-- The callee's equation.
 use borrow.Author.Needs.{needs}
 use Rattle.scan.proofs.begin.all_listed.Statement.{statement}
 use Rattle.scan.proofs.begin.all_listed.Tie as tie

@@ -1,13 +1,12 @@
 -- A name in its eighteen bytes: it is inside them, and they begin with it.
 use Prim.Native.Nat.{ℕ, _-_, _≤_}
-use mathlib.Core.Path.{_≡_, ap, _∙_}
+use mathlib.Core.Path.{_≡_}
 use mathlib.Core.List.{List}
 use native.Mathlib.Omega.{arith}
 use lib.ListN.{length, replicate, length-append}
 use lib.Seq.{take-append-seam}
-use Rattle.rules.specs.Calls.{Outcome}
-use Rattle.answers.specs.declared.Name.{Name}
-use Rattle.answers.specs.Told.{nameRoom, padded, spelled, nameIn}
+use Rattle.name.specs.declared.Name.{Name}
+use Rattle.name.specs.Spelled.{nameRoom, padded, spelled}
 
 pub padded-inside : (bs : List ℕ) (x : Name) → x ≡ padded bs → x .len ≤ length (x .bytes)
 unfolding padded
@@ -16,7 +15,3 @@ padded-inside bs x e = rw e (omega (arith, length-append bs (replicate (nameRoom
 pub padded-spelled : (bs : List ℕ) (x : Name) → x ≡ padded bs → spelled x ≡ bs
 unfolding padded
 padded-spelled bs x e = rw e (take-append-seam bs (replicate (nameRoom - length bs) 0))
-
--- what is told and the name beside it, at once
-pub with-name : {n : Name} {o p : Outcome} → o ≡ p → n ≡ padded (nameIn (o .values)) → (o ≡ p) × (n ≡ padded (nameIn (p .values)))
-with-name e f = (e, f ∙ ap (λ (o : Outcome). padded (nameIn (o .values))) e)
