@@ -62,6 +62,7 @@ eject-713 v f = choice (λ (i : Input). gives n713 (fedAt i f) ≡ false) (eqb v
   where
     Free : Fed → Type 0
     Free d = gives n713 d ≡ false
+
     out : gives n713 (fedAt Input.EjectOne f) ≡ false
     out = choice Free (busy (f .state)) (λ _. refl) (λ _. choice Free (stuck (f .state)) (λ _. refl) (λ _. refl))
 
