@@ -3,75 +3,68 @@ pub mod mode;
 
 use answers::After;
 use answers::Why;
+use rules::Fed;
+use rules::Input;
 use rules::Record;
 ghost use mathlib.Core.Path.{_≡_};
+ghost use mathlib.Core.Bool.{cond};
 ghost use mathlib.Core.List.{[]};
-ghost use Rattle.rules.specs.Calls.{feeder, Load, Eject, Reset};
-ghost use Rattle.rules.specs.Feeder.{unloads, loads, ejects, resets};
-ghost use Rattle.rules.specs.Moves.{withFeeder};
+ghost use Rattle.rules.specs.Calls.{n501, n711, n713, feeder, Load, Eject, Reset};
+ghost use Rattle.rules.specs.Feeder.{fedAt, gives, ejecting};
+ghost use Rattle.rules.specs.Moves.{fedBy};
 ghost use Rattle.rules.specs.Machine.{step};
+ghost use Rattle.answers.specs.declared.Why.{Why};
+ghost use Rattle.answers.specs.declared.Answer.{Answer};
 ghost use Rattle.answers.specs.Told.{stateOf, gave};
 
-// ---- the record with the feeder moved
-fn unloaded(r: Record) -> Record
-    ensures { λ n. ⌜ n ≡ withFeeder (unloads (r .feeder)) r ⌝ }
+// What the feeder's rule makes of the record, and the answer for its number.
+fn by_rule(input: Input, r: Record) -> After
+    ensures { λ a. ⌜ a ≡
+        cond (gives n501 (fedAt input (r .feeder))) (record { next = r; answer = Answer.Refused Why.WrongState })
+        (cond (gives n711 (fedAt input (r .feeder))) (record { next = r; answer = Answer.Refused Why.FeederErred })
+        (cond (gives n713 (fedAt input (r .feeder))) (record { next = fedBy input r; answer = Answer.Refused Why.NoSheet })
+        (record { next = fedBy input r; answer = Answer.Done }))) ⌝ }
 {
     let f = r.feeder;
-    moves::with_feeder(feeding::unload(f), r)
+    let d = feeding::rule::ask(input, f);
+    if d.number == Fed::WRONG_STATE {
+        return After::refused(Why::WrongState, r);
+    }
+    if d.number == Fed::ERRED {
+        return After::refused(Why::FeederErred, r);
+    }
+    let n = moves::feed(input, r);
+    if d.number == Fed::NO_SHEET {
+        return After::refused(Why::NoSheet, n);
+    }
+    After::done(n)
 }
 
-fn loaded(r: Record) -> Record
-    ensures { λ n. ⌜ n ≡ withFeeder (loads (r .feeder)) r ⌝ }
+// 0 ejects one sheet, 1 and 2 all of them.
+fn ejecting(value: u8) -> Input
+    ensures { λ i. ⌜ i ≡ ejecting value ⌝ }
 {
-    let f = r.feeder;
-    moves::with_feeder(feeding::load(f), r)
+    if value == 0 {
+        return Input::EjectOne;
+    }
+    Input::EjectAll
 }
 
-fn ejected(value: u8, r: Record) -> Record
-    ensures { λ n. ⌜ n ≡ withFeeder (ejects value (r .feeder)) r ⌝ }
-{
-    let f = r.feeder;
-    moves::with_feeder(feeding::eject(value, f), r)
-}
-
-fn cleared(r: Record) -> Record
-    ensures { λ n. ⌜ n ≡ withFeeder (resets (r .feeder)) r ⌝ }
-{
-    let f = r.feeder;
-    moves::with_feeder(feeding::reset(f), r)
-}
-
-// ---- the calls
-// Tray empty: 713 and Unloaded, from Loaded too. Else Loaded.
 pub fn load(r: Record, ring: &[u8], job: u32) -> After
     ensures { λ a. ⌜ gave a (now (ring .entry)) [] ≡ step (stateOf r (now (ring .entry))) (feeder (Load job)) ⌝ }
 {
-    let f = r.feeder;
-    let s = f.state;
     if !state::sound_with(r, ring) {
         return After::refused(Why::Unsound, r);
     }
     if state::asked::not_ours(job, r) {
         return After::refused(Why::OtherJob, r);
     }
-    if state::feed::is_busy(s) {
-        return After::refused(Why::WrongState, r);
-    }
-    if state::feed::is_erred(s) {
-        return After::refused(Why::FeederErred, r);
-    }
-    if feeding::is_loadless(f) {
-        return After::refused(Why::NoSheet, unloaded(r));
-    }
-    After::done(loaded(r))
+    by_rule(Input::Load, r)
 }
 
-// Unloaded; 1 and 2 also set MorePages to 0.
 pub fn eject(r: Record, ring: &[u8], job: u32, value: u8) -> After
     ensures { λ a. ⌜ gave a (now (ring .entry)) [] ≡ step (stateOf r (now (ring .entry))) (feeder (Eject job value)) ⌝ }
 {
-    let f = r.feeder;
-    let s = f.state;
     if !state::sound_with(r, ring) {
         return After::refused(Why::Unsound, r);
     }
@@ -81,29 +74,17 @@ pub fn eject(r: Record, ring: &[u8], job: u32, value: u8) -> After
     if state::asked::not_ours(job, r) {
         return After::refused(Why::OtherJob, r);
     }
-    if state::feed::is_busy(s) {
-        return After::refused(Why::WrongState, r);
-    }
-    if state::feed::is_erred(s) {
-        return After::refused(Why::FeederErred, r);
-    }
-    After::done(ejected(value, r))
+    by_rule(ejecting(value), r)
 }
 
-// Erred with a clear path becomes Unloaded, none.
 pub fn reset(r: Record, ring: &[u8], job: u32) -> After
     ensures { λ a. ⌜ gave a (now (ring .entry)) [] ≡ step (stateOf r (now (ring .entry))) (feeder (Reset job)) ⌝ }
 {
-    let f = r.feeder;
-    let s = f.state;
     if !state::sound_with(r, ring) {
         return After::refused(Why::Unsound, r);
     }
     if state::asked::not_ours(job, r) {
         return After::refused(Why::OtherJob, r);
     }
-    if state::feed::is_busy(s) {
-        return After::refused(Why::WrongState, r);
-    }
-    After::done(cleared(r))
+    by_rule(Input::Reset, r)
 }

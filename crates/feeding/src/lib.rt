@@ -1,13 +1,15 @@
-// The feeder's moves, which speak of the feeder alone.
+// The feeder's moves, which speak of the feeder alone, and the sheet tests of a side's beginning.
+pub mod rule;
+
 use rules::Failure;
 use rules::Feed;
 use rules::Feeder;
+use rules::Input;
 ghost use mathlib.Core.Path.{_≡_};
 ghost use mathlib.Core.Bool.{cond, _&&_};
-ghost use lib.Dec.{eqb};
-ghost use Rattle.rules.specs.Record.{on, stuck};
-ghost use Rattle.rules.specs.Feeder.{stands, fails, trayAt, pathAt, loadless, taken, freed, late, jammed, unloads, loads, ejects, resets};
-ghost use Rattle.rules.specs.Moves.{jamStops, sheetStops};
+ghost use Rattle.rules.specs.declared.Input.{Input};
+ghost use Rattle.rules.specs.Record.{on, unloaded, stuck};
+ghost use Rattle.rules.specs.Feeder.{stands, trayAt, pathAt, fedAt, cleared, besides, driven, jamStops, sheetStops, taken, freed, late};
 
 fn stand(state: Feed, f: Feeder) -> Feeder
     ensures { λ n. ⌜ n ≡ stands state f ⌝ }
@@ -21,22 +23,67 @@ fn stand(state: Feed, f: Feeder) -> Feeder
     }
 }
 
-fn fail(state: Feed, failure: Failure, f: Feeder) -> Feeder
-    ensures { λ n. ⌜ n ≡ fails state failure f ⌝ }
+// Reset leads out of Erred.
+fn leaves(f: Feeder) -> bool
+    ensures { λ b. ⌜ b ≡ (stuck (f .state) && unloaded (fedAt Input.Reset f .next)) ⌝ }
 {
-    Feeder {
-        state,
-        failure,
-        tray: f.tray,
-        path: f.path,
+    let state = f.state;
+    let d = rule::ask(Input::Reset, f);
+    let next = d.next;
+    let erred = state::feed::is_erred(state);
+    let free = state::feed::is_unloaded(next);
+    erred & free
+}
+
+fn clear(f: Feeder) -> Failure
+    ensures { λ x. ⌜ x ≡ cleared f ⌝ }
+{
+    let failure = f.failure;
+    if leaves(f) {
+        return Failure::None;
+    }
+    failure
+}
+
+// What an input changes besides the state.
+fn beside(input: Input, f: Feeder) -> Feeder
+    ensures { λ n. ⌜ n ≡ besides input f ⌝ }
+{
+    match input {
+        Input::Load => f,
+        Input::EjectOne => f,
+        Input::EjectAll => set_tray(0, f),
+        Input::Reset => {
+            let failure = clear(f);
+            let state = f.state;
+            Feeder {
+                state,
+                failure,
+                tray: f.tray,
+                path: f.path,
+            }
+        }
+        Input::Jam => {
+            let state = f.state;
+            Feeder {
+                state,
+                failure: Failure::Jammed,
+                tray: f.tray,
+                path: 1,
+            }
+        }
+        Input::SideEnd => f,
     }
 }
 
-// No sheet for Load.
-pub fn is_loadless(f: Feeder) -> bool
-    ensures { λ b. ⌜ b ≡ loadless f ⌝ }
+// The feeder moved by an input.
+pub fn drive(input: Input, f: Feeder) -> Feeder
+    ensures { λ n. ⌜ n ≡ driven input f ⌝ }
 {
-    f.tray == 0
+    let d = rule::ask(input, f);
+    let next = d.next;
+    let n = beside(input, f);
+    stand(next, n)
 }
 
 // A side that is to begin from the feeder finds it Erred.
@@ -84,63 +131,12 @@ pub fn be_late(f: Feeder) -> Feeder
 {
     let s = f.state;
     if state::feed::is_busy(s) {
-        return fail(Feed::Erred, Failure::Timeout, f);
-    }
-    f
-}
-
-pub fn jam(f: Feeder) -> Feeder
-    ensures { λ n. ⌜ n ≡ jammed f ⌝ }
-{
-    Feeder {
-        state: Feed::Erred,
-        failure: Failure::Jammed,
-        tray: f.tray,
-        path: 1,
-    }
-}
-
-pub fn unload(f: Feeder) -> Feeder
-    ensures { λ n. ⌜ n ≡ unloads f ⌝ }
-{
-    stand(Feed::Unloaded, f)
-}
-
-pub fn load(f: Feeder) -> Feeder
-    ensures { λ n. ⌜ n ≡ loads f ⌝ }
-{
-    stand(Feed::Loaded, f)
-}
-
-// Unloaded; all but 0 also set MorePages to 0.
-pub fn eject(value: u8, f: Feeder) -> Feeder
-    ensures { λ n. ⌜ n ≡ ejects value f ⌝ }
-{
-    let failure = f.failure;
-    let tray = if value == 0 { f.tray } else { 0 };
-    Feeder {
-        state: Feed::Unloaded,
-        failure,
-        tray,
-        path: f.path,
-    }
-}
-
-// Erred, and the path is clear.
-fn is_clear(f: Feeder) -> bool
-    ensures { λ b. ⌜ b ≡ (stuck (f .state) && eqb (f .path) 0) ⌝ }
-{
-    let s = f.state;
-    let erred = state::feed::is_erred(s);
-    erred & (f.path == 0)
-}
-
-// Erred with path sensor 0 becomes Unloaded, none.
-pub fn reset(f: Feeder) -> Feeder
-    ensures { λ n. ⌜ n ≡ resets f ⌝ }
-{
-    if is_clear(f) {
-        return fail(Feed::Unloaded, Failure::None, f);
+        return Feeder {
+            state: Feed::Erred,
+            failure: Failure::Timeout,
+            tray: f.tray,
+            path: f.path,
+        };
     }
     f
 }

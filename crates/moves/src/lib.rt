@@ -1,14 +1,15 @@
 // The moves of the record, each under the requirements' name. What they leave alone they keep.
 use rules::Failure;
 use rules::Feeder;
+use rules::Input;
 use rules::Record;
 use rules::Ring;
 use rules::Scan;
 use rules::Scanner;
 use rules::Side;
 ghost use mathlib.Core.Path.{_≡_};
-ghost use Rattle.rules.specs.Moves.{withFeeder, withRing, standing, quietAt, stopAt, emptied, heard, begun, announced, released, ended, timedOut, faulted};
-ghost use Rattle.rules.specs.Moves.{waited, numbered, drainedOn, drained};
+ghost use Rattle.rules.specs.Moves.{withFeeder, withRing, standing, quietAt, stopAt, emptied, fedBy, heard, begun, announced, released, ended, timedOut};
+ghost use Rattle.rules.specs.Moves.{faulted, waited, numbered, drainedOn, drained};
 
 pub fn with_feeder(f: Feeder, r: Record) -> Record
     ensures { λ n. ⌜ n ≡ withFeeder f r ⌝ }
@@ -16,6 +17,15 @@ pub fn with_feeder(f: Feeder, r: Record) -> Record
     let mut n = r;
     n.feeder = f;
     n
+}
+
+// The feeder moved by an input.
+pub fn feed(input: Input, r: Record) -> Record
+    ensures { λ n. ⌜ n ≡ fedBy input r ⌝ }
+{
+    let was = r.feeder;
+    let f = feeding::drive(input, was);
+    with_feeder(f, r)
 }
 
 pub fn set_quiet(quiet: u16, r: Record) -> Record

@@ -10,9 +10,11 @@ use lib.ListN.{length}
 use native.Mathlib.Omega.{arith}
 use borrow.Author.Tests.{ltb-true, eqb-true, not-false}
 use Rattle.rules.specs.declared.Scan.{Scan}
+use Rattle.rules.specs.declared.Feed.{Feed}
 use Rattle.rules.specs.declared.Feeder.{Feeder}
+use Rattle.rules.specs.declared.Input.{Input}
 use Rattle.rules.specs.Record.{scanning, erred, idle, busy, stuck}
-use Rattle.rules.specs.Feeder.{unloads}
+use Rattle.rules.specs.Feeder.{stands, loading, fed, fedAt, gives}
 use Rattle.rules.specs.Moves.{withFeeder}
 use Rattle.rules.specs.Calls.{rowOf, StartScan, Start, Stop, Abort, GetDestination, Fetch, GetState, GetSideInformation, Load, Eject, Reset}
 use Rattle.rules.specs.Calls.{SetFeederMode, GetFeederState, GetFeederMode, Bytes, SideEnded, Tray, Path, Tick, Call, scan, feeder, report, Reason}
@@ -22,6 +24,7 @@ use Rattle.rules.specs.Machine.{effect, lines, step}
 use Rattle.rules.specs.Watch.{scanOf, wasAccepted, sign}
 use Rattle.rules.specs.Promises.{below, bears, First, noLine, refuses, passes, leaves, goes, OneOf, zero, here, there, reasons, leftBy, Refusal}
 use Rattle.rules.proofs.Choice.{or-r, and-l, and-r}
+use Rattle.rules.proofs.Feeding.{is-ready, no-sheet}
 use Rattle.rules.proofs.Sound.{Sound, from-sound}
 
 pub nonzero : (n : Reason) → eqb (numberOf n) 0 ≡ false
@@ -136,7 +139,7 @@ Clear (leaving n t r ∷ ls) = (t ≡ false) × Clear ls
 abbrev pub Leaves : (Outcome → Type 0) → List Line → State → Call → Type 0
 Leaves P [] s c = Unit {0}
 Leaves P (refuse n t ∷ ls) s c = P (refused n (s .box) s c) × (t ≡ false → Leaves P ls s c)
-Leaves P (leaving n t r ∷ ls) s c = P (refused n r s c) × (t ≡ false → Leaves P ls s c)
+Leaves P (leaving n t r ∷ ls) s c = (t ≡ true → P (refused n r s c)) × (t ≡ false → Leaves P ls s c)
 
 pub by-tests : (P : Outcome → Type 0) (ls : List Line) (s : State) (c : Call) (o : Outcome) → Leaves P ls s c → (Clear ls → P o)
     → P (answer ls s c o)
@@ -144,14 +147,24 @@ unfolding answer
 by-tests P [] s c o l ok = ok tt
 by-tests P (refuse n true ∷ ls) s c o l ok = l .0
 by-tests P (refuse n false ∷ ls) s c o l ok = by-tests P ls s c o (l .1 refl) (λ k. ok (refl, k))
-by-tests P (leaving n true r ∷ ls) s c o l ok = l .0
+by-tests P (leaving n true r ∷ ls) s c o l ok = l .0 refl
 by-tests P (leaving n false r ∷ ls) s c o l ok = by-tests P ls s c o (l .1 refl) (λ k. ok (refl, k))
 
 -- Load alone has a `leaving` line
 abbrev pub Unloading : (Outcome → Type 0) → State → Call → Type 0
 Unloading P s c =
     (j : ℕ) → c ≡ feeder (Load j) → busy (s .box .feeder .state) ≡ false → stuck (s .box .feeder .state) ≡ false
-    → P (refused n713 (withFeeder (unloads (s .box .feeder)) (s .box)) s c)
+    → P (refused n713 (withFeeder (stands Feed.Unloaded (s .box .feeder)) (s .box)) s c)
+
+-- its 713 comes to a feeder that is neither Busy nor Erred, and leaves it Unloaded
+no-sheet-left : (P : Outcome → Type 0) (s : State) (j : ℕ) → Unloading P s (feeder (Load j))
+    → gives n501 (fedAt Input.Load (s .box .feeder)) ≡ false → gives n711 (fedAt Input.Load (s .box .feeder)) ≡ false
+    → gives n713 (loading (s .box .feeder .tray)) ≡ true
+    → P (refused n713 (withFeeder (stands (loading (s .box .feeder .tray) .next) (s .box .feeder)) (s .box)) s (feeder (Load j)))
+unfolding fed
+no-sheet-left P s j u b x e =
+    let h = is-ready (s .box .feeder .state) _ b x in
+    rw (no-sheet (s .box .feeder .tray) e) (u j refl (h .free) (h .fit))
 
 -- a list that keeps all as it was
 keeping-leaves : (P : Outcome → Type 0) (ls : List Line) (s : State) (c : Call) → ((n : Reason) → P (refused n (s .box) s c))
@@ -164,7 +177,7 @@ leaves-of : (P : Outcome → Type 0) (s : State) (c : Call) → ((n : Reason) �
     → (isLoad c || keeping (refusals c s)) ≡ true → Leaves P (refusals c s) s c
 unfolding refusals feederRefusals
 leaves-of P s (scan c) kept u e = keeping-leaves P (refusals (scan c) s) s (scan c) kept e
-leaves-of P s (feeder (Load j)) kept u e = (kept n712, λ _. (kept n501, λ b. (kept n711, λ x. (u j refl b x, λ _. tt))))
+leaves-of P s (feeder (Load j)) kept u e = (kept n712, λ _. (kept n501, λ b. (kept n711, λ x. (no-sheet-left P s j u b x, λ _. tt))))
 leaves-of P s (feeder (Eject j v)) kept u e = keeping-leaves P (refusals (feeder (Eject j v)) s) s (feeder (Eject j v)) kept e
 leaves-of P s (feeder (Reset j)) kept u e = keeping-leaves P (refusals (feeder (Reset j)) s) s (feeder (Reset j)) kept e
 leaves-of P s (feeder (SetFeederMode j m)) kept u e = keeping-leaves P (refusals (feeder (SetFeederMode j m)) s) s (feeder (SetFeederMode j m)) kept e
@@ -202,10 +215,12 @@ load-refusing s j =
         kept n712 refl,
         λ _. (
           kept n501 refl,
-          λ _. (
+          λ b. (
             kept n711 refl,
-            λ _.
-                (λ _. record { values = refl; reply = refl; left = refl }, λ _. tt),
+            λ x. (
+              no-sheet-left (Refusing s c) s j (λ _ _ _ _ _. record { values = refl; reply = refl; left = refl }) b x,
+              λ _. tt,
+            ),
           ),
         ),
       ),
@@ -287,7 +302,7 @@ module _ (s : State) (f : Feeder) (n : Reason) where
 pub refused-silent : (s : State) (c : Call) → wasAccepted (step s c) ≡ false → sign c (scanOf s) (step s c) ≡ false
 refused-silent s c =
     by-step (λ (o : Outcome). wasAccepted o ≡ false → sign c (scanOf s) o ≡ false) s c (λ n _. refusal-silent s (s .box .feeder) n c)
-    (λ _ _ _ _ _. refusal-silent s (unloads (s .box .feeder)) n713 c)
+    (λ _ _ _ _ _. refusal-silent s (stands Feed.Unloaded (s .box .feeder)) n713 c)
     (λ _ e. absurd (true≢false (sym (ap (λ (n : ℕ). eqb n 0) (formed c s .accepts)) ∙ e)))
 
 -- what the job tests say, for scan calls and for feeder calls

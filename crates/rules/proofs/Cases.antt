@@ -4,10 +4,11 @@ use mathlib.Core.Path.{_≡_}
 use mathlib.Core.Bool.{true, false, _||_}
 use lib.Dec.{eqb, leb}
 use Rattle.rules.specs.declared.Scan.{Scan}
+use Rattle.rules.specs.declared.Input.{Input}
 use Rattle.rules.specs.declared.Record.{Record}
 use Rattle.rules.specs.Record.{idle, pending, erred, on}
-use Rattle.rules.specs.Feeder.{jammed, pathAt}
-use Rattle.rules.specs.Moves.{withFeeder, standing, quietAt, stopAt, jamStops, sheetStops, begun, ended, timedOut, readied, started, stopped, numbered}
+use Rattle.rules.specs.Feeder.{pathAt, jamStops, sheetStops}
+use Rattle.rules.specs.Moves.{withFeeder, standing, quietAt, stopAt, fedBy, begun, ended, timedOut, readied, started, stopped, numbered}
 use Rattle.rules.specs.Moves.{faulted, waited, drained, moved, last, fetched, finished, sideEnded, feeds, caught, pathed, due, ticked}
 use Rattle.rules.proofs.Choice.{choice}
 
@@ -44,7 +45,7 @@ module _ (P : Record → Type 0) (r : Record) where
 
   pub pathed-cases : (v : ℕ)
       → (feeds r ≡ true → P (caught r))
-      → (feeds r ≡ false → P (withFeeder (jammed (r .feeder)) r)) → P (withFeeder (pathAt 0 (r .feeder)) r) → P (pathed v r)
+      → (feeds r ≡ false → P (fedBy Input.Jam r)) → P (withFeeder (pathAt 0 (r .feeder)) r) → P (pathed v r)
   unfolding pathed
   pathed-cases v j f o = choice P (on v) (λ _. choice P _ j f) (λ _. o)
 

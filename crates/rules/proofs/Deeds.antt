@@ -9,22 +9,23 @@ use lib.ListN.{length}
 use native.Mathlib.Omega.{arith}
 use borrow.Author.Tests.{ltb-false, eqb-true, leb-true, not-false}
 use Rattle.rules.specs.declared.Feed.{Feed}
-use Rattle.rules.specs.declared.Failure.{Failure}
 use Rattle.rules.specs.declared.Feeder.{Feeder}
+use Rattle.rules.specs.declared.Input.{Input}
 use Rattle.rules.specs.declared.Record.{Record}
 use Rattle.rules.specs.Record.{counted, endless, idle, pending, scanning, erred, busy, stuck, on, granting}
-use Rattle.rules.specs.Feeder.{pathAt, trayAt, jammed, unloads, loads, ejects, resets}
-use Rattle.rules.specs.Moves.{withFeeder, settled, given, least, filled, feeds, caught}
+use Rattle.rules.specs.Feeder.{stands, pathAt, trayAt, fed, driven, ejecting}
+use Rattle.rules.specs.Moves.{withFeeder, fedBy, settled, given, least, filled, feeds, caught}
 use Rattle.rules.specs.Calls.{ScanCall, StartScan, Start, Stop, Abort, GetDestination, Fetch, GetState, GetSideInformation, FeederCall, Load, Eject}
 use Rattle.rules.specs.Calls.{Reset, SetFeederMode, GetFeederState, GetFeederMode, Report, Bytes, SideEnded, Tray, Path, Tick, Call, scan, feeder}
 use Rattle.rules.specs.Calls.{report, Reason, n713, numberOf, State, Values, nothing, Outcome, lent, to, refused, answer}
 use Rattle.rules.specs.Machine.{listed, sidesListed, scanRefusals, feederRefusals, reportRefusals, refusals, accepted, scanEffect, feederEffect}
 use Rattle.rules.specs.Machine.{reportEffect, effect, step}
 use Rattle.rules.specs.Watch.{scanOf, wasAccepted, countIn, bytesIn, timeIn, sign, ticks, brought, scanAsks, asks}
-use Rattle.rules.proofs.Choice.{choice, or-l, or-r, and-l, and-r, vacuous}
+use Rattle.rules.proofs.Choice.{or-l, or-r, and-l, and-r}
 use Rattle.rules.proofs.Sound.{FeederFit, Sound, idle-none}
+use Rattle.rules.proofs.Feeding.{AsBusy, load-busy, eject-busy, reset-busy, driven-fit}
 use Rattle.rules.proofs.Cases.{pathed-cases}
-use Rattle.rules.proofs.Keeps.{free-path, refit, jammed-fit, refeed, ended-sound, ticked-sound, fetched-sound, filled-sound, sideEnded-sound}
+use Rattle.rules.proofs.Keeps.{free-path, refit, refeed, ended-sound, ticked-sound, fetched-sound, filled-sound, sideEnded-sound}
 use Rattle.rules.proofs.Keeps.{free-unless, caught-sound, resting, stopped-sound, settled-fit, started-sound, given-rests, given-common}
 use Rattle.rules.proofs.RingLaws.{length-put}
 use Rattle.rules.proofs.Answers.{nonzero, Clear, by-step, Good, plain, scans-on, refusal-silent}
@@ -87,7 +88,7 @@ module _ (s : State) (h : Good s) where
       aside {c = c} (numberOf n) nothing f (lent c)
       (record { free = b; fit = i; silent = refusal-silent s f n c; still = t; mute = nothing-mute; dry = rw (nonzero n); unasked = asks-none c _ (nonzero n) })
 
-  unloading : stuck (s .box .feeder .state) ≡ false → FeederFit (unloads (s .box .feeder))
+  unloading : stuck (s .box .feeder .state) ≡ false → FeederFit (stands Feed.Unloaded (s .box .feeder))
   unloading e =
       let f = s .box .feeder in
       let i = h .common .feeder in
@@ -97,7 +98,7 @@ module _ (s : State) (h : Good s) where
   by-deed : (c : Call) → ticks c ≡ false → (Clear (refusals c s) → Deed s c (effect c s)) → Deed s c (step s c)
   by-deed c t ok =
       by-step (Deed s c) s c (λ n. kept c t n (s .box .feeder) refl (h .common .feeder))
-      (λ j _ b e. kept c t n713 (unloads (s .box .feeder)) (sym b) (unloading e)) ok
+      (λ j _ b e. kept c t n713 (stands Feed.Unloaded (s .box .feeder)) (sym b) (unloading e)) ok
 
   -- ---- an accepted call that changes the feeder alone, or nothing
   besides : (c : Call) (v : Values) (f : Feeder) → busy (f .state) ≡ busy (s .box .feeder .state) → FeederFit f
@@ -153,46 +154,23 @@ module _ (s : State) (h : Good s) where
   scan-done GetSideInformation k = reads (scan GetSideInformation) _ refl refl (record { untimed = refl; uncounted = refl; unpictured = refl }) refl refl
 
   -- ---- feeder calls
-  resets-fit : FeederFit (resets (s .box .feeder))
-  resets-fit =
+  drives : (c : FeederCall) (i : Input) → AsBusy i → Deed s (feeder c) (accepted nothing (fedBy i (s .box)) s)
+  drives c i b =
       let f = s .box .feeder in
-      choice FeederFit (stuck (f .state) && eqb (f .path) 0)
-      (λ e. refit Feed.Unloaded Failure.None f (zero-off (f .path) (and-r (stuck (f .state)) _ e)) (h .common .feeder)) (λ _. h .common .feeder)
-    where
-      zero-off : (p : ℕ) → eqb p 0 ≡ true → on p ≡ false
-      zero-off p e = rw (eqb-true p 0 e)
-
-  resets-free : busy (s .box .feeder .state) ≡ false → busy (resets (s .box .feeder) .state) ≡ busy (s .box .feeder .state)
-  resets-free e =
-      choice (λ (f : Feeder). busy (f .state) ≡ busy (s .box .feeder .state)) (stuck (s .box .feeder .state) && eqb (s .box .feeder .path) 0)
-      (λ _. sym e) (λ _. refl)
-
-  ejects-fit : (v : ℕ) → stuck (s .box .feeder .state) ≡ false → FeederFit (ejects v (s .box .feeder))
-  ejects-fit v e =
-      let i = h .common .feeder in
-      record {
-        tray = choice (λ (x : ℕ). x ≤ 1) (eqb v 0) (λ _. i .tray) (λ _. omega arith);
-        path = i .path;
-        jam = vacuous (on (s .box .feeder .path)) false (free-path (s .box .feeder) e i);
-      }
+      besides (feeder c) nothing (driven i f) (b 0 (f .state) (f .tray) (f .path)) (driven-fit i f (h .common .feeder)) refl refl nothing-mute refl refl
 
   feeder-done : (c : FeederCall) → Clear (feederRefusals c (s .box)) → Deed s (feeder c) (feederEffect c s)
   unfolding feederRefusals feederEffect
-  feeder-done (Load j) k =
-      let f = s .box .feeder in
-      let i = refit Feed.Loaded (f .failure) f (free-path f (k .1 .1 .0) (h .common .feeder)) (h .common .feeder) in
-      besides (feeder (Load j)) nothing (loads f) (sym (k .1 .0)) i refl refl nothing-mute refl refl
-  feeder-done (Eject j v) k =
-      besides (feeder (Eject j v)) nothing (ejects v (s .box .feeder)) (sym (k .1 .1 .0)) (ejects-fit v (k .1 .1 .1 .0)) refl refl nothing-mute refl refl
-  feeder-done (Reset j) k =
-      besides (feeder (Reset j)) nothing (resets (s .box .feeder)) (resets-free (k .1 .0)) resets-fit refl refl nothing-mute refl refl
+  feeder-done (Load j) k = drives (Load j) Input.Load load-busy
+  feeder-done (Eject j v) k = drives (Eject j v) (ejecting v) (eject-busy v)
+  feeder-done (Reset j) k = drives (Reset j) Input.Reset reset-busy
   feeder-done (SetFeederMode j m) k = reads (feeder (SetFeederMode j m)) nothing refl refl nothing-mute refl refl
   feeder-done GetFeederState k = reads (feeder GetFeederState) _ refl refl (record { untimed = refl; uncounted = refl; unpictured = refl }) refl refl
   feeder-done GetFeederMode k = reads (feeder GetFeederMode) _ refl refl (record { untimed = refl; uncounted = refl; unpictured = refl }) refl refl
 
   -- ---- reports
   report-done : (c : Report) → Clear (reportRefusals c (s .box) (length (s .bytes))) → Deed s (report c) (reportEffect c s)
-  unfolding reportRefusals reportEffect
+  unfolding reportRefusals reportEffect fed
   report-done (Bytes bs) k =
       let n = length (s .bytes) in
       let r = s .box in
@@ -213,7 +191,7 @@ module _ (s : State) (h : Good s) where
       let q = scans-on (scanOf s) in
       pathed-cases (λ (x : Record). Deed s c (accepted nothing x s)) (s .box) v
       (λ e. jams e (caught-sound (s .box) (length (s .bytes)) e h))
-      (λ e. besides c nothing (jammed f) (sym (free-unless (scanOf s) (s .box) e (h .phase))) (jammed-fit f i) q refl nothing-mute refl refl)
+      (λ e. besides c nothing (driven Input.Jam f) (sym (free-unless (scanOf s) (s .box) e (h .phase))) (driven-fit Input.Jam f i) q refl nothing-mute refl refl)
       (besides c nothing (pathAt 0 f) refl (record { tray = i .tray; path = omega arith; jam = refl }) q refl nothing-mute refl refl)
   report-done Tick k = second (ticked-sound (s .box) (length (s .bytes)) h)
 

@@ -11,15 +11,17 @@ use Rattle.rules.specs.declared.Feed.{Feed}
 use Rattle.rules.specs.declared.Failure.{Failure}
 use Rattle.rules.specs.declared.Granted.{Granted}
 use Rattle.rules.specs.declared.Feeder.{Feeder}
+use Rattle.rules.specs.declared.Input.{Input}
 use Rattle.rules.specs.declared.Record.{Record}
 use Rattle.rules.specs.Record.{greatest, mostRing, faultTime, endless, leastTime, mostTime, lastSide, mostSides, idle, pending, scanning, finishing}
 use Rattle.rules.specs.Record.{erred, busy, stuck, on, granting, limit, counted}
-use Rattle.rules.specs.Feeder.{stands, fails, taken, freed, late, jammed}
-use Rattle.rules.specs.Moves.{device, caught, withFeeder, quietAt, stopAt, jamStops, begun, released, ended, timedOut, settled, nextJob, given, readied}
+use Rattle.rules.specs.Feeder.{stands, fails, fed, jamStops, taken, freed, late}
+use Rattle.rules.specs.Moves.{device, caught, withFeeder, quietAt, stopAt, begun, released, ended, timedOut, settled, nextJob, given, readied}
 use Rattle.rules.specs.Moves.{started, stopped, numbered, drained, moved, last, fetched, filled, fallen, finished, sideEnded, feeds, due, ticked}
 use Rattle.rules.specs.Machine.{listed}
 use Rattle.rules.proofs.Choice.{choice, implied, vacuous, tollens, and-l, and-not}
 use Rattle.rules.proofs.Sound.{RingFit, FeederFit, Common, Held, Holding, Source, Glass, Resting, Reading, PhaseAt, Phase, Sound}
+use Rattle.rules.proofs.Feeding.{busy-fit, side-free, driven-fit}
 use Rattle.rules.proofs.Cases.{started-cases, stopped-cases, drained-cases, fetched-cases, sideEnded-cases, ticked-cases}
 use Rattle.rules.proofs.RingLaws.{wrap-lt}
 
@@ -53,12 +55,6 @@ eased true p = requiet _ _ (omega (arith, p .quiet)) p
 eased false p = p
 
 -- ---- the feeder's moves
-busy-fit : (x : Feed) → busy x ≡ true → stuck x ≡ false
-busy-fit Feed.Unloaded e = refl
-busy-fit Feed.Loaded e = refl
-busy-fit Feed.Busy e = refl
-busy-fit Feed.Erred e = absurd (false≢true e)
-
 -- a feeder that is not Erred has its path free; one with its path free may stand as it is told
 pub free-path : (f : Feeder) → stuck (f .state) ≡ false → FeederFit f → on (f .path) ≡ false
 free-path f e h = tollens (on (f .path)) (stuck (f .state)) (h .jam) e
@@ -84,9 +80,6 @@ late-fit f h = choice FeederFit (busy (f .state)) (λ _. erred-fit Failure.Timeo
 
 late-free : (f : Feeder) → busy (late f .state) ≡ false
 late-free f = not-busy f (fails Feed.Erred Failure.Timeout f) refl
-
-pub jammed-fit : (f : Feeder) → FeederFit f → FeederFit (jammed f)
-jammed-fit f h = record { tray = h .tray; path = omega arith; jam = refl }
 
 -- the feeder alone changes, Busy or not as before
 pub refeed : (r : Record) (n : ℕ) (f : Feeder) → busy (f .state) ≡ busy (r .feeder .state) → FeederFit f → Sound r n → Sound (withFeeder f r) n
@@ -332,16 +325,17 @@ sideEnded-sound r n s h =
       side = record { number = g .side .number; count = fallen-count (r .side .count) (g .side .count) };
       settings = g .settings;
       stop = g .stop;
-      feeder = freed-fit (r .feeder) (g .feeder);
+      feeder = driven-fit Input.SideEnd (r .feeder) (g .feeder);
     } in
     let held : Holding (finished r .job) (r .job .granted .seconds) = requiet 0 _ (omega (arith, p .held .low)) (p .held) in
+    let free = side-free 0 (r .feeder .state) (r .feeder .tray) (r .feeder .path) in
     let glass = source-glass (on (r .settings .feeder)) _ (r .side .count) (p .source) in
     sideEnded-cases (λ (x : Record). Sound x n) r
     (λ e. drained-sound (finished r) n
-    (record { common = common; held = held; quiet = refl; empty = eqb-true _ _ e; free = freed-free (r .feeder); glass = glass }))
+    (record { common = common; held = held; quiet = refl; empty = eqb-true _ _ e; free = free; glass = glass }))
     (λ e. record {
       common = common;
-      phase = record { held = held; full = omega (arith, eqb-false (r .ring .stored) 0 e); free = freed-free (r .feeder); glass = glass };
+      phase = record { held = held; full = omega (arith, eqb-false (r .ring .stored) 0 e); free = free; glass = glass };
     })
 
 -- ---- Path
@@ -361,6 +355,7 @@ jam-held : (s : Scan) (r : Record) → (scanning s && on (r .settings .feeder)) 
 jam-held s r e p = requiet _ _ (omega arith) (reading s r (and-l _ _ e) p .held)
 
 pub caught-sound : (r : Record) (n : ℕ) → feeds r ≡ true → Sound r n → Sound (caught r) n
+unfolding fed
 caught-sound r n e h =
     let g = h .common in
     record {
@@ -370,7 +365,7 @@ caught-sound r n e h =
             side = g .side;
             settings = g .settings;
             stop = omega arith;
-            feeder = jammed-fit (r .feeder) (g .feeder);
+            feeder = driven-fit Input.Jam (r .feeder) (g .feeder);
           };
       phase = record { held = jam-held (r .scanner .state) r e (h .phase); stop = refl; empty = refl; free = refl };
     }

@@ -2,6 +2,7 @@ pub mod Agrees
 pub mod Choice
 pub mod Guards
 pub mod Sound
+pub mod Feeding
 pub mod Cases
 pub mod Keeps
 pub mod RingLaws

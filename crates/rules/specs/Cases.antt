@@ -19,6 +19,7 @@ use Rattle.rules.specs.declared.Feeder.{Feeder}
 use Rattle.rules.specs.declared.Ring.{Ring}
 use Rattle.rules.specs.declared.Record.{Record}
 use Rattle.rules.specs.Record.{sound}
+use Rattle.rules.specs.Feeder.{fed}
 use Rattle.rules.specs.Moves.{begun, released, given, readied, started, stopped, name, drained, moved, fetched, filled, finished, sideEnded, pathed}
 use Rattle.rules.specs.Moves.{ticked}
 use Rattle.rules.specs.Calls.{Tick, Call, report, State, Values, nothing, picture, stored, Outcome, answer}
@@ -40,7 +41,7 @@ that says gives due e = record { says = says; gives = gives; due = due; holds = 
 
 -- the outcome of a call after others
 unfoldable pub final : State → List Call → Call → Outcome
-unfolding runBy step answer scanRefusals feederRefusals reportRefusals refusals scanEffect feederEffect reportEffect effect sound begun
+unfolding runBy step answer scanRefusals feederRefusals reportRefusals refusals scanEffect feederEffect reportEffect effect sound fed begun
     released given readied started stopped name drained moved fetched filled finished sideEnded pathed ticked
 final s cs c = step (run s cs .end) c
 

@@ -5,10 +5,11 @@ use mathlib.Core.List.{List, [], _∷_, _++_}
 use lib.Dec.{eqb, leb, ltb}
 use lib.ListN.{length, drop}
 use Rattle.rules.specs.declared.Record.{Record}
-use Rattle.rules.specs.Record.{endless, counted, idle, pending, scanning, erred, unloaded, busy, stuck, on, marked, granting, fresh, sound}
+use Rattle.rules.specs.declared.Input.{Input}
+use Rattle.rules.specs.Record.{endless, counted, idle, pending, scanning, erred, unloaded, on, marked, granting, fresh, sound}
 use Rattle.rules.specs.Ring.{wrap, put, queue}
-use Rattle.rules.specs.Feeder.{trayAt, loadless, unloads, loads, ejects, resets, simplex}
-use Rattle.rules.specs.Moves.{device, headed, withFeeder, jamStops, sheetStops, ended, settled, given, started, stopped, name, scanLength, least, last}
+use Rattle.rules.specs.Feeder.{stands, trayAt, simplex, loading, fedAt, gives, ejecting, jamStops, sheetStops}
+use Rattle.rules.specs.Moves.{device, headed, withFeeder, fedBy, ended, settled, given, started, stopped, name, scanLength, least, last}
 use Rattle.rules.specs.Moves.{fetched, filled, sideEnded, pathed, ticked}
 use Rattle.rules.specs.Calls.{ScanCall, StartScan, Start, Stop, Abort, GetDestination, Fetch, GetState, GetSideInformation, FeederCall, Load, Eject}
 use Rattle.rules.specs.Calls.{Reset, SetFeederMode, GetFeederState, GetFeederMode, Report, Bytes, SideEnded, Tray, Path, Tick, Call, scan, feeder}
@@ -67,17 +68,17 @@ scanRefusals GetSideInformation r = []
 unfoldable pub feederRefusals : FeederCall → Record → List Line
 feederRefusals (Load j) r =
     refuse n712 (notOurs j r)
-    ∷ refuse n501 (busy (r .feeder .state))
-    ∷ refuse n711 (stuck (r .feeder .state))
-    ∷ leaving n713 (loadless (r .feeder)) (withFeeder (unloads (r .feeder)) r)
+    ∷ refuse n501 (gives n501 (fedAt Input.Load (r .feeder)))
+    ∷ refuse n711 (gives n711 (fedAt Input.Load (r .feeder)))
+    ∷ leaving n713 (gives n713 (loading (r .feeder .tray))) (withFeeder (stands (loading (r .feeder .tray) .next) (r .feeder)) r)
     ∷ []
 feederRefusals (Eject j v) r =
     refuse n601 (not (listed v))
     ∷ refuse n712 (notOurs j r)
-    ∷ refuse n501 (busy (r .feeder .state))
-    ∷ refuse n711 (stuck (r .feeder .state))
+    ∷ refuse n501 (gives n501 (fedAt (ejecting v) (r .feeder)))
+    ∷ refuse n711 (gives n711 (fedAt (ejecting v) (r .feeder)))
     ∷ []
-feederRefusals (Reset j) r = refuse n712 (notOurs j r) ∷ refuse n501 (busy (r .feeder .state)) ∷ []
+feederRefusals (Reset j) r = refuse n712 (notOurs j r) ∷ refuse n501 (gives n501 (fedAt Input.Reset (r .feeder))) ∷ []
 feederRefusals (SetFeederMode j m) r =
     refuse n601 (not (eqb m simplex)) ∷ refuse n712 (notOurs j r) ∷ refuse n501 (not (unloaded (r .feeder .state))) ∷ []
 feederRefusals GetFeederState r = []
@@ -125,9 +126,9 @@ scanEffect GetState s = accepted (state (s .box .scanner .state) (s .box .scanne
 scanEffect GetSideInformation s = accepted (sides (s .box .side .number) (s .box .side .count) (scanLength (s .box))) (s .box) s
 
 unfoldable pub feederEffect : FeederCall → State → Outcome
-feederEffect (Load j) s = accepted nothing (withFeeder (loads (s .box .feeder)) (s .box)) s
-feederEffect (Eject j v) s = accepted nothing (withFeeder (ejects v (s .box .feeder)) (s .box)) s
-feederEffect (Reset j) s = accepted nothing (withFeeder (resets (s .box .feeder)) (s .box)) s
+feederEffect (Load j) s = accepted nothing (fedBy Input.Load (s .box)) s
+feederEffect (Eject j v) s = accepted nothing (fedBy (ejecting v) (s .box)) s
+feederEffect (Reset j) s = accepted nothing (fedBy Input.Reset (s .box)) s
 feederEffect (SetFeederMode j m) s = accepted nothing (s .box) s
 feederEffect GetFeederState s = accepted (feeding (s .box .feeder .state) (s .box .feeder .tray) (s .box .feeder .failure)) (s .box) s
 feederEffect GetFeederMode s = accepted (mode simplex) (s .box) s

@@ -10,11 +10,12 @@ use Rattle.rules.specs.declared.Job.{Job}
 use Rattle.rules.specs.declared.Side.{Side}
 use Rattle.rules.specs.declared.Settings.{Settings}
 use Rattle.rules.specs.declared.Feeder.{Feeder}
+use Rattle.rules.specs.declared.Input.{Input}
 use Rattle.rules.specs.declared.Ring.{Ring}
 use Rattle.rules.specs.declared.Record.{Record}
-use Rattle.rules.specs.Record.{greatest, lastSide, endless, idle, pending, scanning, finishing, erred, stuck, on, granting, limit, fresh}
+use Rattle.rules.specs.Record.{greatest, lastSide, endless, idle, pending, scanning, finishing, erred, on, granting, limit, fresh}
 use Rattle.rules.specs.Ring.{wrap}
-use Rattle.rules.specs.Feeder.{sheetless, taken, freed, late, jammed, pathAt}
+use Rattle.rules.specs.Feeder.{pathAt, driven, jamStops, sheetStops, taken, freed, late}
 
 -- ---- one part of the record changed
 abbrev pub withScanner : Scanner → Record → Record
@@ -54,18 +55,15 @@ countAt c r = withSide (record { number = r .side .number; count = c; destinatio
 abbrev pub emptied : Record → Record
 emptied r = withRing (fresh .ring) r
 
+-- the feeder moved by an input
+abbrev pub fedBy : Input → Record → Record
+fedBy i r = withFeeder (driven i (r .feeder)) r
+
 -- signs of life: quiet is set to 0 where so many bytes moved, 1 or more
 abbrev pub heard : ℕ → Record → Record
 heard k r = quietAt (cond (leb 1 k) 0 (r .job .quiet)) r
 
 -- ---- a side begins
--- from the feeder: Erred is 711; Unloaded with an empty tray is 713
-abbrev pub jamStops : ℕ → Feeder → Bool
-jamStops from f = on from && stuck (f .state)
-
-abbrev pub sheetStops : ℕ → Feeder → Bool
-sheetStops from f = on from && sheetless f
-
 -- DestinationID rises by one, 4,294,967,295 going to 0
 abbrev pub risen : ℕ → ℕ
 risen d = cond (eqb d greatest) 0 (d + 1)
@@ -209,7 +207,7 @@ fallen c = cond (eqb c endless) c (c - 1)
 
 -- Busy becomes Unloaded; SideCount falls; Finishing; a sign of life
 unfoldable pub finished : Record → Record
-finished r = standing Scan.Finishing (countAt (fallen (r .side .count)) (withFeeder (freed (r .feeder)) (quietAt 0 r)))
+finished r = standing Scan.Finishing (countAt (fallen (r .side .count)) (fedBy Input.SideEnd (quietAt 0 r)))
 
 -- if the ring is empty the drain step follows at once
 unfoldable pub sideEnded : Record → Record
@@ -223,11 +221,11 @@ feeds r = scanning (r .scanner .state) && on (r .settings .feeder)
 -- 1 also makes the feeder Erred, Jammed; if Scanning from the feeder, the scanner becomes Erred, Jammed, the ring is
 -- emptied and an asked stop forgotten; a sign of life
 abbrev pub caught : Record → Record
-caught r = faulted (emptied (stopAt 0 (quietAt 0 (withFeeder (jammed (r .feeder)) r))))
+caught r = faulted (emptied (stopAt 0 (quietAt 0 (fedBy Input.Jam r))))
 
 -- 0 sets the sensor only
 unfoldable pub pathed : ℕ → Record → Record
-pathed v r = cond (on v) (cond (feeds r) (caught r) (withFeeder (jammed (r .feeder)) r)) (withFeeder (pathAt 0 (r .feeder)) r)
+pathed v r = cond (on v) (cond (feeds r) (caught r) (fedBy Input.Jam r)) (withFeeder (pathAt 0 (r .feeder)) r)
 
 -- ---- Tick. Idle: nothing. Held: quiet plus 1; at granted (300 in Erred) the job ends by time
 abbrev pub due : Record → ℕ

@@ -8,10 +8,11 @@ use mathlib.Core.Option.{Option, none, some}
 use lib.Dec.{eqb, ltb}
 use lib.IntN.{ℤ, pos, negsuc}
 use lib.ListN.{length, take, drop}
+use Rattle.rules.specs.declared.Feed.{Feed}
 use Rattle.rules.specs.declared.Failure.{Failure}
 use Rattle.rules.specs.declared.Record.{Record}
 use Rattle.rules.specs.Record.{greatest, mostSides, mostRing, pending, erred}
-use Rattle.rules.specs.Feeder.{unloads}
+use Rattle.rules.specs.Feeder.{stands}
 use Rattle.rules.specs.Moves.{withFeeder, name}
 use Rattle.rules.specs.Calls.{StartScan, Start, Stop, Abort, GetDestination, Fetch, GetState, GetSideInformation, Eject, Reset, SetFeederMode}
 use Rattle.rules.specs.Calls.{GetFeederState, GetFeederMode, rowOf, Load, SideEnded, Tick, Call, scan, feeder, report, Reason, numberOf, State, nothing}
@@ -59,7 +60,7 @@ reasons (leaving n t r ∷ ls) = n ∷ reasons ls
 -- what a refusal by number n leaves: by Load's 713 the feeder Unloaded, rest kept; else all as it was
 abbrev pub leftBy : Call → ℕ → State → State
 leftBy (scan c) n s = s
-leftBy (feeder (Load j)) n s = cond (eqb n 713) (to (withFeeder (unloads (s .box .feeder)) (s .box)) s) s
+leftBy (feeder (Load j)) n s = cond (eqb n 713) (to (withFeeder (stands Feed.Unloaded (s .box .feeder)) (s .box)) s) s
 leftBy (feeder (Eject j v)) n s = s
 leftBy (feeder (Reset j)) n s = s
 leftBy (feeder (SetFeederMode j m)) n s = s

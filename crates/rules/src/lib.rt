@@ -66,6 +66,22 @@ pub struct Feeder {
     pub path: u8,
 }
 
+// What moves the feeder.
+pub enum Input {
+    Load,
+    EjectOne,
+    EjectAll,
+    Reset,
+    Jam,
+    SideEnd,
+}
+
+// What the feeder's rule gives: the next state, and the reason number, 0 where accepted.
+pub struct Fed {
+    pub next: Feed,
+    pub number: u16,
+}
+
 // Where the stored picture bytes start in the lent ring, and how many there are.
 pub struct Ring {
     pub start: usize,
@@ -98,6 +114,16 @@ impl Side {
 impl Settings {
     // Device-setting: keep the setting.
     pub const DEVICE: u8 = 2;
+}
+
+impl Fed {
+    pub const ACCEPTED: u16 = 0;
+
+    pub const WRONG_STATE: u16 = 501;
+
+    pub const ERRED: u16 = 711;
+
+    pub const NO_SHEET: u16 = 713;
 }
 
 impl Ring {

@@ -1,4 +1,5 @@
 // What the sensor reports make of the record.
+use rules::Input;
 use rules::Record;
 use rules::Ring;
 ghost use mathlib.Core.Path.{_≡_};
@@ -12,11 +13,8 @@ fn finish(r: Record) -> Record
     ensures { λ n. ⌜ n ≡ finished r ⌝ }
 {
     let count = sides::fall(r.side.count);
-    let was = r.feeder;
-    let f = feeding::free(was);
-    let mut n = r;
+    let mut n = moves::feed(Input::SideEnd, r);
     n.side.count = count;
-    n.feeder = f;
     n.job.quiet = 0;
     moves::stand(rules::Scan::Finishing, n)
 }
@@ -46,10 +44,7 @@ fn is_fed(r: Record) -> bool
 fn catch(r: Record) -> Record
     ensures { λ n. ⌜ n ≡ caught r ⌝ }
 {
-    let was = r.feeder;
-    let f = feeding::jam(was);
-    let mut n = r;
-    n.feeder = f;
+    let mut n = moves::feed(Input::Jam, r);
     n.job.quiet = 0;
     n.job.stop = 0;
     let ring = Ring {
@@ -64,13 +59,13 @@ fn catch(r: Record) -> Record
 pub fn set_path(value: u8, r: Record) -> Record
     ensures { λ n. ⌜ n ≡ pathed value r ⌝ }
 {
-    let was = r.feeder;
     if value == 1 {
         if is_fed(r) {
             return catch(r);
         }
-        return moves::with_feeder(feeding::jam(was), r);
+        return moves::feed(Input::Jam, r);
     }
+    let was = r.feeder;
     moves::with_feeder(feeding::set_path(0, was), r)
 }
 

@@ -1,7 +1,8 @@
--- `feeder::eject`: each return walks the call's refusals up to the test that answered (`Leads`).
-use borrow.Author.Needs.{needs}
-use Rattle.answers.proofs.Leads.{through, through-not, leads, accept, hit, skip, tests}
+-- Each return walks the call's refusals up to the test that answered (`Leads`), or to what `by_rule` gives (`Ruled`).
+use Rattle.answers.proofs.Leads.{leads, hit, skip, tests}
 use Rattle.rules.specs.Machine.{step, refusals, feederRefusals, effect, feederEffect}
+use Rattle.feeder.proofs.Ruled.{eject-leads}
+use borrow.Author.Needs.{needs}
 use Rattle.feeder.proofs.eject.Statement.{statement}
 use Rattle.feeder.proofs.eject.Tie as tie
 
@@ -35,46 +36,17 @@ returns-3 : tie.Need-returns-3
 unfolding step refusals feederRefusals effect feederEffect
 returns-3 c = rw (c .refused3 .ensures) (leads (skip (search tests) (skip (search tests) (hit (search tests)))))
 
-is-busy-requires : tie.Need-is-busy-requires
-is-busy-requires c κs = search needs
+ejecting-requires : tie.Need-ejecting-requires
+ejecting-requires c κs = search needs
 
-refused-requires-4 : tie.Need-refused-requires-4
-refused-requires-4 c κs = search needs
+by-rule-requires : tie.Need-by-rule-requires
+by-rule-requires c κs = search needs
 
 returns-4 : tie.Need-returns-4
 unfolding step refusals feederRefusals effect feederEffect
-returns-4 c = rw (c .refused4 .ensures) (leads (skip (search tests) (skip (search tests) (skip (search tests) (hit (search tests))))))
-
-is-erred-requires : tie.Need-is-erred-requires
-is-erred-requires c κs = search needs
-
-refused-requires-5 : tie.Need-refused-requires-5
-refused-requires-5 c κs = search needs
-
-returns-5 : tie.Need-returns-5
-unfolding step refusals feederRefusals effect feederEffect
-returns-5 c = rw (c .refused5 .ensures) (leads (skip (search tests) (skip (search tests) (skip (search tests) (skip (search tests) (hit (search tests)))))))
-
-ejected-requires : tie.Need-ejected-requires
-ejected-requires c κs = search needs
-
-done-requires : tie.Need-done-requires
-done-requires c κs = search needs
-
-returns-6 : tie.Need-returns-6
-unfolding step refusals feederRefusals effect feederEffect
-returns-6 c =
-    let fifth = c .before .before in
-    let fourth = fifth .before .before in
-    let third = fourth .before .before in
-    let second = third .before .before in
-    let first = second .before .before in
-    let sound-with = through-not (first .before .sound-with .ensures) (first .if1 .left) in
-    let is-listed = through-not (second .before .is-listed .ensures) (second .if2 .left) in
-    let not-ours = through (third .before .not-ours .ensures) (third .if3 .left) in
-    let is-busy = through (fourth .before .is-busy .ensures) (fourth .if4 .left) in
-    let is-erred = through (fifth .before .is-erred .ensures) (fifth .if5 .left) in
-    rw (c .done .ensures, c .before .ejected .ensures) (leads (skip sound-with (skip is-listed (skip not-ours (skip is-busy (skip is-erred accept))))))
+returns-4 c =
+    let args = c .before .before .before .before .before .before .before .before .before .args in
+    leads (skip (search tests) (skip (search tests) (skip (search tests) (eject-leads {v = args .value} (c .before .ejecting .ensures) (c .by-rule .ensures)))))
 
 pub eject-spec : {M : Type 1} → statement M
 eject-spec =
@@ -89,12 +61,6 @@ eject-spec =
     not-ours-requires
     refused-requires-3
     returns-3
-    is-busy-requires
-    refused-requires-4
-    returns-4
-    is-erred-requires
-    refused-requires-5
-    returns-5
-    ejected-requires
-    done-requires
-    returns-6)
+    ejecting-requires
+    by-rule-requires
+    returns-4)

@@ -1,7 +1,8 @@
--- `feeder::reset`: each return walks the call's refusals up to the test that answered (`Leads`).
-use borrow.Author.Needs.{needs}
+-- Each return walks the call's refusals up to the test that answered (`Leads`), or to what `by_rule` gives (`Ruled`).
+use Rattle.answers.proofs.Leads.{leads, hit, skip, tests}
 use Rattle.rules.specs.Machine.{step, refusals, feederRefusals, effect, feederEffect}
-use Rattle.answers.proofs.Leads.{leads, accept, hit, skip, tests}
+use Rattle.feeder.proofs.Ruled.{reset-leads}
+use borrow.Author.Needs.{needs}
 use Rattle.feeder.proofs.reset.Statement.{statement}
 use Rattle.feeder.proofs.reset.Tie as tie
 
@@ -25,25 +26,12 @@ returns-2 : tie.Need-returns-2
 unfolding step refusals feederRefusals effect feederEffect
 returns-2 c = rw (c .refused2 .ensures) (leads (skip (search tests) (hit (search tests))))
 
-is-busy-requires : tie.Need-is-busy-requires
-is-busy-requires c κs = search needs
-
-refused-requires-3 : tie.Need-refused-requires-3
-refused-requires-3 c κs = search needs
+by-rule-requires : tie.Need-by-rule-requires
+by-rule-requires c κs = search needs
 
 returns-3 : tie.Need-returns-3
 unfolding step refusals feederRefusals effect feederEffect
-returns-3 c = rw (c .refused3 .ensures) (leads (skip (search tests) (skip (search tests) (hit (search tests)))))
-
-cleared-requires : tie.Need-cleared-requires
-cleared-requires c κs = search needs
-
-done-requires : tie.Need-done-requires
-done-requires c κs = search needs
-
-returns-4 : tie.Need-returns-4
-unfolding step refusals feederRefusals effect feederEffect
-returns-4 c = rw (c .done .ensures, c .before .cleared .ensures) (leads (skip (search tests) (skip (search tests) (skip (search tests) accept))))
+returns-3 c = leads (skip (search tests) (skip (search tests) (reset-leads (c .by-rule .ensures))))
 
 pub reset-spec : {M : Type 1} → statement M
 reset-spec =
@@ -55,9 +43,5 @@ reset-spec =
     not-ours-requires
     refused-requires-2
     returns-2
-    is-busy-requires
-    refused-requires-3
-    returns-3
-    cleared-requires
-    done-requires
-    returns-4)
+    by-rule-requires
+    returns-3)

@@ -1,14 +1,11 @@
 -- `feeding::be_late`: each return is an arm of the definition's test (`Guards`).
-use Rattle.rules.proofs.Guards.{guards, numbers}
 use borrow.Author.Needs.{needs}
+use Rattle.rules.proofs.Guards.{guards, numbers}
 use Rattle.feeding.proofs.be_late.Statement.{statement}
 use Rattle.feeding.proofs.be_late.Tie as tie
 
 is-busy-requires : tie.Need-is-busy-requires
 is-busy-requires c κs = search needs
-
-fail-requires : tie.Need-fail-requires
-fail-requires c κs = search needs
 
 returns : tie.Need-returns
 returns c = search (needs, guards, numbers) depth 12
@@ -17,4 +14,4 @@ returns-2 : tie.Need-returns-2
 returns-2 c = search needs
 
 pub be-late-spec : {M : Type 1} → statement M
-be-late-spec = tie.close (tie.spec is-busy-requires fail-requires returns returns-2)
+be-late-spec = tie.close (tie.spec is-busy-requires returns returns-2)

@@ -7,15 +7,15 @@ use Rattle.sensors.proofs.finish.Tie as tie
 fall-requires : tie.Need-fall-requires
 fall-requires c κs = search needs
 
-free-requires : tie.Need-free-requires
-free-requires c κs = search needs
+feed-requires : tie.Need-feed-requires
+feed-requires c κs = search needs
 
 stand-requires : tie.Need-stand-requires
 stand-requires c κs = search needs
 
 returns : tie.Need-returns
 unfolding finished
-returns c = rw (c .stand .ensures, c .before .before .before .free .ensures, c .before .before .before .before .before .fall .ensures)
+returns c = rw (c .stand .ensures, c .before .before .before .feed .ensures, c .before .before .before .before .fall .ensures)
 
 pub finish-spec : {M : Type 1} → statement M
-finish-spec = tie.close (tie.spec fall-requires free-requires stand-requires returns)
+finish-spec = tie.close (tie.spec fall-requires feed-requires stand-requires returns)

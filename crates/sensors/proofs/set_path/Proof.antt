@@ -15,25 +15,22 @@ returns : tie.Need-returns
 unfolding pathed
 returns c = search (needs, guards, numbers) depth 12
 
-jam-requires : tie.Need-jam-requires
-jam-requires c κs = search needs
-
-with-feeder-requires : tie.Need-with-feeder-requires
-with-feeder-requires c κs = search needs
+feed-requires : tie.Need-feed-requires
+feed-requires c κs = search needs
 
 returns-2 : tie.Need-returns-2
 unfolding pathed
-returns-2 c = rw (c .with-feeder .ensures, c .before .jam .ensures) (search (needs, guards, numbers) depth 12)
+returns-2 c = search (needs, guards, numbers) depth 12
 
 set-path-requires : tie.Need-set-path-requires
 set-path-requires c κs = search needs
 
-with-feeder-requires-2 : tie.Need-with-feeder-requires-2
-with-feeder-requires-2 c κs = search needs
+with-feeder-requires : tie.Need-with-feeder-requires
+with-feeder-requires c κs = search needs
 
 returns-3 : tie.Need-returns-3
 unfolding pathed
-returns-3 c = rw (c .with-feeder2 .ensures, c .before .set-path .ensures) (search (needs, guards, numbers) depth 12)
+returns-3 c = rw (c .with-feeder .ensures, c .before .set-path .ensures) (search (needs, guards, numbers) depth 12)
 
 pub set-path-spec : {M : Type 1} → statement M
 set-path-spec =
@@ -42,9 +39,8 @@ set-path-spec =
     is-fed-requires
     catch-requires
     returns
-    jam-requires
-    with-feeder-requires
+    feed-requires
     returns-2
     set-path-requires
-    with-feeder-requires-2
+    with-feeder-requires
     returns-3)
