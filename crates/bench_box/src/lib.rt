@@ -55,7 +55,7 @@ fn lent(words: &[u64; 18], length: usize) -> Loading
     let Loading::Loads(r) = loading else {
         return Loading::Malformed;
     };
-    if !state::is_sound(r, length) {
+    if !sound::is_sound(r, length) {
         return Loading::Malformed;
     }
     Loading::Loads(r)
