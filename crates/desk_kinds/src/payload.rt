@@ -1,5 +1,6 @@
 // A payload as a request, and the bytes that go with it.
 use crate::Asking;
+use crate::kinds::*;
 use crate::numbers::byte_at;
 use crate::numbers::long_at;
 use crate::numbers::word_at;
@@ -33,37 +34,34 @@ pub fn request(kind: u8, body: &[u8]) -> Asking
     ensures { λ r. ⌜ r ≡ askingOf kind (now (body .entry)) ⌝ }
 {
     match kind {
-        crate::START_SCAN => Asking::Asks(Request::StartScan(
+        START_SCAN => Asking::Asks(Request::StartScan(
             byte_at(body, 0),
             count_at(body, 1),
             byte_at(body, 3),
             word_at(body, 4) as u32,
         )),
-        crate::START => Asking::Asks(Request::Start(
+        START => Asking::Asks(Request::Start(
             long_at(body, 0),
             byte_at(body, 4),
             count_at(body, 5),
         )),
-        crate::STOP => Asking::Asks(Request::Stop(long_at(body, 0))),
-        crate::ABORT => Asking::Asks(Request::Abort(long_at(body, 0))),
-        crate::GET_DESTINATION => Asking::Asks(Request::GetDestination(long_at(body, 0))),
-        crate::FETCH => Asking::Asks(Request::Fetch(byte_at(body, 0))),
-        crate::GET_STATE => Asking::Asks(Request::GetState),
-        crate::GET_SIDE_INFORMATION => Asking::Asks(Request::GetSideInformation),
-        crate::LOAD => Asking::Asks(Request::Load(long_at(body, 0))),
-        crate::EJECT => Asking::Asks(Request::Eject(long_at(body, 0), byte_at(body, 4))),
-        crate::RESET => Asking::Asks(Request::Reset(long_at(body, 0))),
-        crate::SET_FEEDER_MODE => Asking::Asks(Request::SetFeederMode(
-            long_at(body, 0),
-            byte_at(body, 4),
-        )),
-        crate::GET_FEEDER_STATE => Asking::Asks(Request::GetFeederState),
-        crate::GET_FEEDER_MODE => Asking::Asks(Request::GetFeederMode),
-        crate::BYTES => Asking::Asks(Request::Bytes),
-        crate::SIDE_ENDED => Asking::Asks(Request::SideEnded),
-        crate::TRAY => Asking::Asks(Request::Tray(byte_at(body, 0))),
-        crate::PATH => Asking::Asks(Request::Path(byte_at(body, 0))),
-        crate::TICK => Asking::Asks(Request::Tick),
+        STOP => Asking::Asks(Request::Stop(long_at(body, 0))),
+        ABORT => Asking::Asks(Request::Abort(long_at(body, 0))),
+        GET_DESTINATION => Asking::Asks(Request::GetDestination(long_at(body, 0))),
+        FETCH => Asking::Asks(Request::Fetch(byte_at(body, 0))),
+        GET_STATE => Asking::Asks(Request::GetState),
+        GET_SIDE_INFORMATION => Asking::Asks(Request::GetSideInformation),
+        LOAD => Asking::Asks(Request::Load(long_at(body, 0))),
+        EJECT => Asking::Asks(Request::Eject(long_at(body, 0), byte_at(body, 4))),
+        RESET => Asking::Asks(Request::Reset(long_at(body, 0))),
+        SET_FEEDER_MODE => Asking::Asks(Request::SetFeederMode(long_at(body, 0), byte_at(body, 4))),
+        GET_FEEDER_STATE => Asking::Asks(Request::GetFeederState),
+        GET_FEEDER_MODE => Asking::Asks(Request::GetFeederMode),
+        BYTES => Asking::Asks(Request::Bytes),
+        SIDE_ENDED => Asking::Asks(Request::SideEnded),
+        TRAY => Asking::Asks(Request::Tray(byte_at(body, 0))),
+        PATH => Asking::Asks(Request::Path(byte_at(body, 0))),
+        TICK => Asking::Asks(Request::Tick),
         _ => Asking::Unlisted,
     }
 }
@@ -72,7 +70,7 @@ pub fn request(kind: u8, body: &[u8]) -> Asking
 pub fn given(kind: u8, body: &[u8]) -> &[u8]
     ensures { λ r. ⌜ now r ≡ givenOf kind (now (body .entry)) ⌝ }
 {
-    if kind != crate::FETCH {
+    if kind != FETCH {
         return body;
     }
     if body.len() < 1 {

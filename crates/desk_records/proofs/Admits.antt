@@ -6,12 +6,12 @@ use mathlib.Core.List.{List}
 use native.Mathlib.Omega.{arith}
 use lib.ListN.{length, take, drop, length-drop}
 use lib.Seq.{drop-drop, length-take-le}
+use Rattle.desk_kinds.specs.Kinds.{limitsOf, within}
+use Rattle.desk_kinds.proofs.Entries.{listed-short}
 use Rattle.desk_records.specs.declared.Fault.{Fault}
 use Rattle.desk_records.specs.declared.Front.{Front}
 use Rattle.desk_records.specs.declared.Reading.{Reading}
-use Rattle.desk_kinds.specs.Kinds.{limitsOf, within}
 use Rattle.desk_records.specs.Reading.{secondMark, lengthWidth, headOf, front, placed, readWith, readAt, partOf}
-use Rattle.desk_kinds.proofs.Entries.{listed-short}
 use Rattle.desk_records.proofs.Stands.{stands}
 use Rattle.desk_records.proofs.Fronts.{part-some}
 

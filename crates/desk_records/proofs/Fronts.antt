@@ -9,11 +9,11 @@ use native.Mathlib.Omega.{arith}
 use lib.ListN.{length, take, drop, length-drop, drop-of-length-le}
 use lib.Seq.{take-all}
 use Rattle.rules.proofs.Guards.{then-arm, else-arm, stop, pass, le-then, le-else, eq-then, eq-else}
-use Rattle.desk_kinds.specs.Numbers.{byteAt, wordAt}
 use Rattle.desk_kinds.specs.declared.Limits.{Limits}
+use Rattle.desk_kinds.specs.Numbers.{byteAt, wordAt}
+use Rattle.desk_kinds.specs.Kinds.{isListed, within}
 use Rattle.desk_records.specs.declared.Fault.{Fault}
 use Rattle.desk_records.specs.declared.Front.{Front}
-use Rattle.desk_kinds.specs.Kinds.{isListed, within}
 use Rattle.desk_records.specs.Reading.{lengthAt, headOf, lengthIn, expect, front, partOf}
 
 -- ---- the length in one byte, and in two

@@ -8,12 +8,12 @@ use lib.ListN.{length, getD, take, drop, length-drop}
 use lib.Seq.{take-add, length-take-le}
 use Rattle.rules.specs.Promises.{All}
 use Rattle.desk_kinds.specs.Numbers.{bigEndian}
+use Rattle.desk_kinds.specs.Kinds.{limitsOf, within}
+use Rattle.desk_kinds.proofs.Entries.{listed-short}
 use Rattle.desk_records.specs.declared.Reading.{Reading}
 use Rattle.desk_records.specs.declared.Written.{Written}
-use Rattle.desk_kinds.specs.Kinds.{limitsOf, within}
 use Rattle.desk_records.specs.Reading.{firstMark, secondMark, lengthAt, lengthWidth, headOf, lengthIn, readWith, readAt, partOf}
 use Rattle.desk_records.specs.Writing.{inBytes, recordWith, recordOf, writing}
-use Rattle.desk_kinds.proofs.Entries.{listed-short}
 use Rattle.desk_records.proofs.Numbers.{Byte, bytes-number}
 use Rattle.desk_records.proofs.Stands.{Stands, stands}
 use Rattle.desk_records.proofs.Admits.{whole-at, places}

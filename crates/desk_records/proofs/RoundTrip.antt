@@ -8,13 +8,13 @@ use native.Mathlib.Omega.{arith}
 use lib.ListN.{length, take, drop, length-append}
 use lib.Seq.{drop-append-seam, drop-at, take-append-seam}
 use Rattle.desk_kinds.specs.Numbers.{bigEndian}
+use Rattle.desk_kinds.specs.Kinds.{limitsOf, within}
+use Rattle.desk_kinds.proofs.Entries.{listed-short}
 use Rattle.desk_records.specs.declared.Front.{Front}
 use Rattle.desk_records.specs.declared.Reading.{Reading}
 use Rattle.desk_records.specs.declared.Written.{Written}
-use Rattle.desk_kinds.specs.Kinds.{limitsOf, within}
 use Rattle.desk_records.specs.Reading.{firstMark, secondMark, lengthWidth, headOf, lengthIn, front, placed, readWith, readAt, partOf}
 use Rattle.desk_records.specs.Writing.{inBytes, recordWith, recordOf, writing}
-use Rattle.desk_kinds.proofs.Entries.{listed-short}
 use Rattle.desk_records.proofs.Numbers.{length-bytes, number-bytes}
 use Rattle.desk_records.proofs.Stands.{whole}
 use Rattle.desk_records.proofs.Admits.{places}

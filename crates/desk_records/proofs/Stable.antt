@@ -9,9 +9,9 @@ use lib.ListN.{length, getD, drop, length-append, length-drop, List·getD-append
 use lib.Seq.{drop-append-le}
 use borrow.Author.Tests.{leb-true, leb-false, le-leb}
 use Rattle.desk_kinds.specs.Numbers.{bigEndian}
+use Rattle.desk_kinds.specs.Kinds.{limitsOf, isListed, within}
 use Rattle.desk_records.specs.declared.Fault.{Fault}
 use Rattle.desk_records.specs.declared.Front.{Front}
-use Rattle.desk_kinds.specs.Kinds.{limitsOf, isListed, within}
 use Rattle.desk_records.specs.Reading.{firstMark, secondMark, lengthAt, lengthWidth, headOf, lengthIn, expect, sized, front}
 use Rattle.desk_records.specs.Reading.{placed, readWith, readAt, cut, cutAt}
 

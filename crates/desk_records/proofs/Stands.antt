@@ -8,9 +8,9 @@ use lib.Dec.{leb, eqb}
 use lib.ListN.{length, getD}
 use borrow.Author.Tests.{leb-true, eqb-true, le-leb, eq-eqb}
 use Rattle.desk_kinds.specs.declared.Limits.{Limits}
+use Rattle.desk_kinds.specs.Kinds.{limitsOf, isListed, within}
 use Rattle.desk_records.specs.declared.Fault.{Fault}
 use Rattle.desk_records.specs.declared.Front.{Front}
-use Rattle.desk_kinds.specs.Kinds.{limitsOf, isListed, within}
 use Rattle.desk_records.specs.Reading.{firstMark, lengthAt, headOf, lengthIn, expect, sized, front}
 
 pub record Stands (m w k n : ℕ) (s : List ℕ) : Type 0 where

@@ -11,8 +11,8 @@ use borrow.Author.Tests.{leb-true, le-leb}
 use Rattle.answers.specs.declared.Why.{Why}
 use Rattle.text.specs.Put.{Puts, over}
 use Rattle.text.proofs.Putting.{then, moved, whole-next, whole-stands}
-use Rattle.desk_records.specs.declared.Written.{Written}
 use Rattle.desk_kinds.specs.Kinds.{limitsOf, within}
+use Rattle.desk_records.specs.declared.Written.{Written}
 use Rattle.desk_records.specs.Reading.{headOf}
 use Rattle.desk_records.specs.Writing.{inBytes, recordWith, writing}
 use Rattle.desk_records.proofs.Numbers.{length-bytes}

@@ -20,7 +20,10 @@ secondMark = 0x5A
 abbrev pub lengthWidth : ℕ
 lengthWidth = 1
 
--- mark and kind, and then the length
+-- mark, kind, length
+abbrev pub kindAt : ℕ
+kindAt = 2
+
 abbrev pub lengthAt : ℕ
 lengthAt = 3
 
@@ -46,7 +49,7 @@ unfoldable pub front : ℕ → ℕ → List ℕ → Front
 front m w s =
     expect s 0 1 (eqb (getD s 0 0) firstMark) Fault.Mark
     (expect s 1 1 (eqb (getD s 1 0) m) Fault.Mark
-    (expect s 2 1 (isListed (limitsOf (getD s 2 0))) Fault.Kind (sized (getD s 2 0) w s)))
+    (expect s kindAt 1 (isListed (limitsOf (getD s kindAt 0))) Fault.Kind (sized (getD s kindAt 0) w s)))
 
 -- reading answers a record with its next place, or bad with its place
 unfoldable pub placed : ℕ → ℕ → Front → Reading

@@ -12,7 +12,9 @@ const MARK: u8 = 0x5A;
 
 const WIDTH: usize = 1;
 
-// Where the length stands, behind mark and kind.
+// Where the kind stands, behind the mark, and then the length.
+const KIND_AT: usize = 2;
+
 const LENGTH_AT: usize = 3;
 
 // Which byte of a record is wrong; or the bytes are right, and end before the record does.

@@ -3,6 +3,7 @@
 use crate::Fault;
 use crate::Front;
 use crate::Hearing;
+use crate::KIND_AT;
 use crate::LENGTH_AT;
 use crate::Reading;
 use desk_kinds::Asking;
@@ -10,8 +11,8 @@ use desk_kinds::Limits;
 use desk_kinds::numbers;
 use desk_kinds::table;
 ghost use mathlib.Core.Path.{_≡_};
-ghost use Prim.Native.Nat.{_+_, _≤_, _<_};
-ghost use lib.ListN.{length, drop};
+ghost use Prim.Native.Nat.{_≤_};
+ghost use lib.ListN.{drop};
 ghost use Rattle.desk_kinds.specs.Kinds.{limitsOf};
 ghost use Rattle.desk_records.specs.Reading.{lengthIn, sized, front, readWith, readAt, cut, cutAt, partOf};
 ghost use Rattle.desk_records.specs.Hearing.{hearAt};
@@ -62,13 +63,13 @@ fn front_with(s: &[u8], mark: u8, width: usize) -> Front
     if s[1] != mark {
         return Front::Wrong(Fault::Mark, 1);
     }
-    if s.len() < 3 {
+    if s.len() < LENGTH_AT {
         return Front::Wrong(Fault::Cut, s.len());
     }
-    let kind = s[2];
+    let kind = s[KIND_AT];
     let found = table::limits(kind);
     let Limits::Listed(_, _) = found else {
-        return Front::Wrong(Fault::Kind, 2);
+        return Front::Wrong(Fault::Kind, KIND_AT);
     };
     length_and_payload(s, kind, found, width)
 }
@@ -144,7 +145,8 @@ pub fn payload(s: &[u8], start: usize, len: usize) -> &[u8]
     &s[start..start + len]
 }
 
-// What a record that was read asks. Every kind that reads is listed, and asks something (`every-record-asks`).
+// The record at a place and what it asks, or bad. A record that reads asks something (`every-record-asks`), so that only
+// reading makes it bad.
 pub fn hear(s: &[u8], at: usize) -> Hearing
     ensures { λ r. ⌜ r ≡ hearAt (now (s .entry)) at ⌝ }
 {
