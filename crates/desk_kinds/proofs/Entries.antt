@@ -46,18 +46,18 @@ module _ (k : ℕ) (m : Misses k entries (Unit {0})) where
 -- ---- no payload is longer than 255 bytes
 short : ℕ → List Entry → Bool
 short most [] = true
-short most (e ∷ es) = leb (e .greatest) most && short most es
+short most (e ∷ es) = leb (e .longest) most && short most es
 
 entries-short : (most k n : ℕ) (es : List Entry) → short most es ≡ true → within (limitsBy (entryIn k es)) n ≡ true → n ≤ most
 unfolding short entryIn
 entries-short most k n [] s h = absurd (false≢true h)
 entries-short most k n (e ∷ es) s h =
-    one-short (eqb (e .kind) k) (leb-true (e .greatest) most (and-l (leb (e .greatest) most) (short most es) s))
-    (entries-short most k n es (and-r (leb (e .greatest) most) (short most es) s)) h
+    one-short (eqb (e .kind) k) (leb-true (e .longest) most (and-l (leb (e .longest) most) (short most es) s))
+    (entries-short most k n es (and-r (leb (e .longest) most) (short most es) s)) h
   where
-    one-short : (t : Bool) → e .greatest ≤ most → (within (limitsBy (entryIn k es)) n ≡ true → n ≤ most)
+    one-short : (t : Bool) → e .longest ≤ most → (within (limitsBy (entryIn k es)) n ≡ true → n ≤ most)
         → within (limitsBy (cond t (some e) (entryIn k es))) n ≡ true → n ≤ most
-    one-short true g later h = let l = leb-true n (e .greatest) (and-r (leb (e .least) n) (leb n (e .greatest)) h) in omega arith
+    one-short true g later h = let l = leb-true n (e .longest) (and-r (leb (e .shortest) n) (leb n (e .longest)) h) in omega arith
     one-short false g later h = later h
 
 all-short : short 255 entries ≡ true

@@ -12,12 +12,12 @@ use Rattle.desk_kinds.specs.Numbers.{byteAt, wordAt, longAt, extended}
 
 pub record Entry : Type 0 where
   pub kind : ℕ
-  pub least : ℕ
-  pub greatest : ℕ
+  pub shortest : ℕ
+  pub longest : ℕ
   pub asking : List ℕ → Request
 
 abbrev pub entry : ℕ → ℕ → ℕ → (List ℕ → Request) → Entry
-entry k lo hi asks = record { kind = k; least = lo; greatest = hi; asking = asks }
+entry k lo hi asks = record { kind = k; shortest = lo; longest = hi; asking = asks }
 
 abbrev pub fetchKind : ℕ
 fetchKind = 0x06
@@ -57,7 +57,7 @@ entryOf k = entryIn k entries
 -- the payload lengths that it lists
 abbrev pub limitsBy : Option Entry → Limits
 limitsBy none = Limits.Unlisted
-limitsBy (some e) = Limits.Listed (e .least) (e .greatest)
+limitsBy (some e) = Limits.Listed (e .shortest) (e .longest)
 
 unfoldable pub limitsOf : ℕ → Limits
 limitsOf k = limitsBy (entryOf k)
