@@ -133,7 +133,7 @@ impl Pair {
             calls: 0,
             questions: 0,
         };
-        Operation::new(Kind::Fill, &pair.table).put(&mut pair.batch.operations);
+        pair.set(Kind::Fill, (0, 0), &pair.table.clone());
         pair.send();
         Ok(pair)
     }
@@ -185,6 +185,12 @@ impl Pair {
 
     // ---- the box
 
+    /// An operation that is no call.
+    fn set(&mut self, kind: Kind, ring: (usize, usize), bytes: &[u8]) {
+        let operations = &mut self.batch.operations;
+        put_operation(operations, &Call::plain(kind), Memory::Usual, (false, 0), [ring.0, ring.1, 0], bytes);
+    }
+
     /// Begins anew.
     pub fn reset(&mut self, start: &Start) {
         let Start { words, ring_length, fill } = *start;
@@ -193,7 +199,7 @@ impl Pair {
         self.model.record = Record::from_words(&words);
         self.turn = 0;
         let bytes = words.map(u64::to_le_bytes).concat();
-        Operation { ring: (fill, ring_length), ..Operation::new(Kind::Reset, &bytes) }.put(&mut self.batch.operations);
+        self.set(Kind::Reset, (fill, ring_length), &bytes);
         if self.is_as_filled && (self.fill, self.model.ring.len()) == (fill, ring_length) {
             return;
         }
@@ -222,18 +228,8 @@ impl Pair {
         let (look_at_ring, look_behind) = self.looks(call, memory);
         let (asked, values) = self.values(call.kind);
         let bytes = if call.kind == Kind::Ask { &asked[..] } else { self.newly_held(&call.input) };
-        let operation = Operation {
-            memory,
-            offset: call.offset,
-            last: call.last,
-            look_at_ring,
-            look_behind,
-            input: (call.input.from, call.input.length),
-            reply: (reply_from, call.reply),
-            room: call.room,
-            ..Operation::new(call.kind, bytes)
-        };
-        operation.put(&mut self.batch.operations);
+        let places = [0, 0, reply_from];
+        put_operation(&mut self.batch.operations, call, memory, (look_at_ring, look_behind), places, bytes);
         self.check_lines(call.room, look_behind)?;
         let reply = if reply_changed { &self.model.reply[..] } else { &[] };
         let changed = if look_at_ring { changes(&self.model.ring, &self.ring_before) } else { 0..0 };

@@ -2,6 +2,7 @@
 //!
 //! The peer's answers are put in the same form. So the two sides agree where their bytes do.
 
+use crate::case::Call;
 use crate::tally::NUMBERS;
 use peer::{DESK_REPLY, KINDS, LINE_MOST, NAMES, RING_MOST, WORDS};
 use std::fmt::{Display, Formatter, Write};
@@ -34,59 +35,30 @@ pub enum Memory {
     BeforePage,
 }
 
-/// What the box is to do.
-pub struct Operation<'a> {
-    pub kind: Kind,
-    pub memory: Memory,
-    pub offset: u64,
-    pub last: bool,
-    pub look_at_ring: bool,
-    pub look_behind: usize,
-    /// A table, words, questions, or the stream that inputs are windows of from now on.
-    pub bytes: &'a [u8],
-    /// Where in the stream, or in the table, it begins; its length.
-    pub input: (usize, usize),
-    pub ring: (usize, usize),
-    pub reply: (usize, usize),
-    pub room: usize,
-}
-
-impl Operation<'_> {
-    pub fn new(kind: Kind, bytes: &[u8]) -> Operation<'_> {
-        let nothing = (0, 0);
-        let (input, ring, reply) = (nothing, nothing, nothing);
-        let (memory, offset, last, look_at_ring, look_behind, room) = (Memory::Usual, 0, false, true, usize::MAX, 0);
-        Operation { kind, memory, offset, last, look_at_ring, look_behind, bytes, input, ring, reply, room }
-    }
-
-    pub fn put(&self, to: &mut Vec<u8>) {
-        let (memory, places) = match self.memory {
-            Memory::Usual => (0, [0; 6]),
-            Memory::Arena(places) => (1, places),
-            Memory::BehindPage => (2, [0; 6]),
-            Memory::BeforePage => (3, [0; 6]),
-        };
-        let numbers = [
-            self.kind as u32,
-            memory,
-            self.offset as u32,
-            (self.offset >> 32) as u32,
-            self.last as u32,
-            self.look_at_ring as u32,
-            self.look_behind.min(u32::MAX as usize) as u32,
-            self.bytes.len() as u32,
-            self.input.0 as u32,
-            self.input.1 as u32,
-            self.ring.0 as u32,
-            self.ring.1 as u32,
-            self.reply.0 as u32,
-            self.reply.1 as u32,
-            self.room as u32,
-        ];
-        put_numbers(to, &numbers);
-        to.extend(places.iter().flat_map(|place| place.to_le_bytes()));
-        to.extend_from_slice(self.bytes);
-    }
+/// Puts what the box is to do: a call with its reply's first bytes from this place of the table, and how much it looks
+/// at; or a ring of this length from a place of the table. Bytes follow: a table, words, questions, or the stream that
+/// inputs are windows of from now on.
+pub fn put_operation(
+    to: &mut Vec<u8>,
+    call: &Call,
+    memory: Memory,
+    (look_at_ring, look_behind): (bool, usize),
+    [ring_from, ring_length, reply_from]: [usize; 3],
+    bytes: &[u8],
+) {
+    let (memory, places) = match memory {
+        Memory::Usual => (0, [0; 6]),
+        Memory::Arena(places) => (1, places),
+        Memory::BehindPage => (2, [0; 6]),
+        Memory::BeforePage => (3, [0; 6]),
+    };
+    put_numbers(to, &[call.kind as u32, memory, call.offset as u32, (call.offset >> 32) as u32]);
+    put_numbers(to, &[call.last.into(), look_at_ring.into(), look_behind.min(u32::MAX as usize) as u32]);
+    let (input, reply) = ([call.input.from, call.input.length], [reply_from, call.reply]);
+    let lengths = [&[bytes.len()], &input[..], &[ring_from, ring_length], &reply, &[call.room]].concat();
+    lengths.iter().for_each(|&length| put_numbers(to, &[length as u32]));
+    places.iter().for_each(|place| to.extend_from_slice(&place.to_le_bytes()));
+    to.extend_from_slice(bytes);
 }
 
 fn put_numbers(to: &mut Vec<u8>, numbers: &[u32]) {
