@@ -421,7 +421,8 @@ static void look(const struct operation *operation, const size_t *lengths, struc
         answer->reply_length = operation->reply_length;
     }
     for (int thing = 0; thing < THINGS; thing++) {
-        if (thing != INPUT && !guards_hold(usual[thing], lengths[thing])) {
+        bool is_lent = operation->kind >= PERFORM ? thing != INPUT : thing == RECORD || thing == RING;
+        if (is_lent && !guards_hold(usual[thing], lengths[thing])) {
             answer->broken |= 1u << thing;
         }
     }
@@ -442,6 +443,21 @@ static void check_call(const struct operation *operation, const size_t *lengths)
     }
 }
 
+/* Lays out what only perform and serve are lent, between guards. */
+static void lend(const struct operation *operation, const size_t *lengths)
+{
+    progress.progress = (bench_box_progress){0, 0, 0};
+    if (operation->kind >= PERFORM) {
+        /* The call has to write over this. */
+        progress.progress = (bench_box_progress){0xBAD00001, 0xBAD00002, 0xBAD00003};
+        lay_guards(usual[PROGRESS], lengths[PROGRESS]);
+        lay_guards(reply, lengths[REPLY]);
+        copy(reply, table + operation->reply_from, lengths[REPLY]);
+        lay_guards(lines, lengths[LINES]);
+        memcpy(lines_before + lengths[LINES], guard, GUARD);
+    }
+}
+
 static void answer_call(const struct operation *operation, const uint8_t *questions)
 {
     struct answer answer = {.number = 0};
@@ -449,17 +465,7 @@ static void answer_call(const struct operation *operation, const uint8_t *questi
                                     operation->reply_length, operation->input_length,  operation->lines_length};
     uint8_t *at[THINGS];
     check_call(operation, lengths);
-    if (operation->kind >= PERFORM) {
-        /* The call has to write over this. */
-        progress.progress = (bench_box_progress){0xBAD00001, 0xBAD00002, 0xBAD00003};
-    } else {
-        progress.progress = (bench_box_progress){0, 0, 0};
-    }
-    lay_guards(usual[PROGRESS], lengths[PROGRESS]);
-    lay_guards(reply, lengths[REPLY]);
-    copy(reply, table + operation->reply_from, lengths[REPLY]);
-    lay_guards(lines, lengths[LINES]);
-    memcpy(lines_before + lengths[LINES], guard, GUARD);
+    lend(operation, lengths);
     take_places(operation, lengths, at);
     size_t head = leave_room(sizeof answer);
     protect(operation, PROT_READ);

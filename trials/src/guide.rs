@@ -199,6 +199,7 @@ impl Guide {
             3 if matches!(now.scan, ScanState::Scanning | ScanState::Finishing) => {
                 record(kind::STOP, &now.job.to_be_bytes())
             }
+            4 if now.job != 0 => self.of_kind(kind::START_SCAN, false),
             _ => {
                 let kind = self.rng.pick(&NO_SIGNS);
                 self.of_kind(kind, false)

@@ -1,8 +1,8 @@
 //! The box program at the other end of two pipes.
 
 use std::io::{self, Read, Write};
-use std::process::{Child, ChildStdin, Command, Stdio};
-use std::sync::mpsc::{channel, Receiver, RecvTimeoutError};
+use std::process::{Child, Command, Stdio};
+use std::sync::mpsc::{channel, Receiver, RecvTimeoutError, Sender};
 use std::thread;
 use std::time::Duration;
 
@@ -25,17 +25,20 @@ pub struct Ended {
 
 pub struct Link {
     child: Child,
-    into: ChildStdin,
+    to: Sender<Vec<u8>>,
     from: Receiver<io::Result<(u32, Vec<u8>)>>,
 }
 
 impl Link {
-    /// Starts the program. A thread reads it, so that it can be missed.
+    /// Starts the program. Two threads feed it and read it, so that nobody waits for a full pipe.
     pub fn start(program: &str) -> io::Result<Link> {
         let mut child = Command::new(program).stdin(Stdio::piped()).stdout(Stdio::piped()).spawn()?;
-        let into = child.stdin.take().expect("a pipe");
+        let mut into = child.stdin.take().expect("a pipe");
         let mut out = child.stdout.take().expect("a pipe");
+        let (to, batches) = channel::<Vec<u8>>();
         let (say, from) = channel();
+        // A program that has ended is told where its answers are missed.
+        thread::spawn(move || batches.iter().try_for_each(|batch| into.write_all(&batch)));
         thread::spawn(move || loop {
             let answers = read_answers(&mut out);
             let over = answers.is_err();
@@ -43,19 +46,18 @@ impl Link {
                 break;
             }
         });
-        Ok(Link { child, into, from })
+        Ok(Link { child, to, from })
     }
 
-    /// Sends a batch: a head's room, then operations. The program waits for it: the batch before it is answered.
+    /// Sends a batch: a head's room, then operations.
     pub fn send(&mut self, mut batch: Vec<u8>) {
         let length = (batch.len() - HEAD) as u64;
         batch[..4].copy_from_slice(&MARK.to_le_bytes());
         batch[8..HEAD].copy_from_slice(&length.to_le_bytes());
-        // A program that has ended is told where its answers are missed.
-        let _ = self.into.write_all(&batch);
+        let _ = self.to.send(batch);
     }
 
-    /// The answers to the batch that was sent.
+    /// The answers to the batch that was sent first.
     pub fn receive(&mut self) -> Result<Vec<u8>, Ended> {
         let why = match self.from.recv_timeout(PATIENCE) {
             Ok(Ok((0, answers))) => return Ok(answers),

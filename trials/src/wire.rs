@@ -169,6 +169,7 @@ impl Answer {
     fn facts(&self) -> Vec<(String, String)> {
         let mut facts = vec![
             ("number".to_string(), self.came.number.to_string()),
+            ("how many values there are".to_string(), self.values.len().to_string()),
             ("progress".to_string(), self.came.to_string()),
             ("text".to_string(), show_text(&self.text)),
             ("reply".to_string(), hex(&self.reply)),
