@@ -107,7 +107,7 @@ fn tried(r: Record, ring: &mut [u8], s: &[u8], right: &[u8], c: Spot, t: Tally) 
     let before = walk(part(s, 0, c.at));
     let w = walk(s);
     let is_bad = w.at < s.len();
-    let mut out = io::large_buffer();
+    let mut out = [0u8; 16384];
     let served = stream::serve(r, ring, s, 0, true, &mut out);
     let is_reached = (served.at == w.at) & (served.ended == is_bad) & (before.at <= w.at);
     let said = part(&out, 0, served.filled);
