@@ -38,7 +38,7 @@ fn emptying_the_ring_sets_start_to_0_and_a_fetch_moves_it() {
         assert_eq!((bench.record.start, bench.record.stored), (1, 2));
         bench
     };
-    // Abort, a jam, and a timeout.
+    // Abort and a jam; then a timeout.
     for empties in [with_job(kind::ABORT, 1), path(1)] {
         let mut bench = filled();
         bench.accept(&[empties]);

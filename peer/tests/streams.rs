@@ -125,7 +125,7 @@ fn long_input_goes_through_the_program() {
     assert!(text_of_program(&cut).ends_with("-\nbad 400000\n"));
 }
 
-/// The box's cases, with their list: NAME KIND RING START EVERY, as crates/test_desk/src/main.rt says.
+/// The box's cases. crates/test_desk/src/main.rt says how their list reads.
 const CASES: &str = concat!(env!("CARGO_MANIFEST_DIR"), "/../crates/test_desk/data");
 
 /// The record that a word of the list names.
