@@ -18,11 +18,12 @@ use Rattle.answers.specs.Asked.{asked, replied}
 use Rattle.text.specs.Put.{Puts}
 use Rattle.text.proofs.Putting.{put-none, moved}
 use Rattle.line.specs.Line.{lineOf, lineFor, lineRoom}
-use Rattle.desk_records.specs.declared.Reading.{Reading}
-use Rattle.desk_records.specs.Reading.{headOf, lengthWidth, readAt, partOf}
+use Rattle.desk_records.specs.declared.Hearing.{Hearing}
+use Rattle.desk_records.specs.Hearing.{hearAt}
+use Rattle.desk_records.specs.Reading.{headOf, lengthWidth, partOf}
 use Rattle.desk_records.proofs.Admits.{read-places}
-use Rattle.desk_kinds.specs.declared.Asking.{Asking}
-use Rattle.desk_kinds.specs.Kinds.{askingOf, givenOf}
+use Rattle.desk_records.proofs.Heard.{heard-record}
+use Rattle.desk_kinds.specs.Kinds.{givenOf}
 use Rattle.stream.specs.Desk.{asks, wrong, heard, callWith, badLine}
 use Rattle.stream.specs.Window.{Progress, Holds}
 use Rattle.stream.proofs.Hearing.{heard-asking}
@@ -58,15 +59,14 @@ came-window p input lines ws ring lines' told next at filled ended h ew et =
     rw (ew, et, b, g, h .place, h .long, h .stopped, h .text) refl
 
 -- ---- one record
--- what is heard at the input's front, by what reading there answered
-module _ (s : List ℕ) (k start n place : ℕ) (e : readAt s 0 ≡ Reading.Record k start n place) where
+-- what is heard at the input's front
+module _ (s : List ℕ) {k start n place : ℕ} {q : Request} (h : hearAt s 0 ≡ Hearing.Record k q start n place) where
   pub read-size : place ≡ headOf lengthWidth + n
-  read-size = let p = read-places s 0 e in omega (arith, p .0, p .1)
+  read-size = let p = read-places s 0 (heard-record s 0 h .0) in omega (arith, p .0, p .1)
 
-  pub heard-given : (body : List ℕ) → body ≡ partOf s start n → (ask : Asking) → ask ≡ askingOf k body → (q : Request) → ask ≡ Asking.Asks q
-      → (given : List ℕ) → given ≡ givenOf k body → heard s ≡ asks k q given (headOf lengthWidth + n)
-  heard-given body b ask a q f given g =
-      heard-asking s 0 k start n place e body b ask a f ∙ ap (λ (x : List ℕ). asks k q x (headOf lengthWidth + n)) (sym g)
+  pub heard-given : (body : List ℕ) → body ≡ partOf s start n → (given : List ℕ) → given ≡ givenOf k body
+      → heard s ≡ asks k q given (headOf lengthWidth + n)
+  heard-given body b given g = heard-asking s 0 h ∙ ap (λ (x : List ℕ). asks k q x (headOf lengthWidth + n)) (sym (g ∙ ap (givenOf k) b))
 
 pub came-saying : (o : Outcome) (next : Record) (ring reply lines text lines' : List ℕ) (number read end ended : ℕ) → number ≡ o .number
     → stateOf next ring ≡ o .state → Puts lines 0 text end lines'
