@@ -110,15 +110,6 @@ impl After {
         After { next, answer }
     }
 
-    pub fn done(next: Record) -> After
-        ensures { λ a. ⌜ a ≡ record { next = next; answer = Answer.Done } ⌝ }
-    {
-        After {
-            next,
-            answer: Answer::Done,
-        }
-    }
-
     pub fn refused(why: Why, next: Record) -> After
         ensures { λ a. ⌜ a ≡ record { next = next; answer = Answer.Refused why } ⌝ }
     {

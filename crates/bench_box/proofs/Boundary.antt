@@ -21,7 +21,7 @@ use Rattle.text.proofs.Putting.{length-digits}
 use Rattle.line.specs.Line.{lineFor, lineRoom}
 use Rattle.line.proofs.Bound.{step-bound}
 use Rattle.stream.specs.Desk.{replyRoom, badLine}
-use Rattle.stream.proofs.Replies.{lent-within}
+use Rattle.answers.proofs.Lending.{lent-within}
 use Rattle.stored.specs.declared.Loading.{Loading}
 use Rattle.stored.specs.Stored.{kept, loading}
 use Rattle.stored.proofs.Back.{loaded-kept, loads-kept}

@@ -14,7 +14,7 @@ use Rattle.rules.specs.Machine.{step}
 use Rattle.rules.proofs.Guards.{stop, pass}
 use Rattle.answers.specs.Told.{stateOf}
 use Rattle.answers.specs.declared.Request.{Request}
-use Rattle.answers.specs.Asked.{asked, kindOf, replied}
+use Rattle.answers.specs.Asked.{asked, replied}
 use Rattle.text.specs.Put.{Puts}
 use Rattle.text.proofs.Putting.{put-none, moved}
 use Rattle.line.specs.Line.{lineOf, lineFor, lineRoom}
@@ -111,16 +111,16 @@ module _ (r : Record) (ring reply s : List ℕ) (offset : ℕ) (out : List ℕ) 
         alike = reply-alike (stateOf r ring) q given (replicate (length reply) 0) reply (length-replicate (length reply) 0)
 
         pub once-answers : {x : One} {next : Record} {number read filled : ℕ} {ring' reply' out' : List ℕ} → stateOf next ring' ≡ lent .state
-            → Puts out 0 (lineFor k lent) filled out' → number ≡ lent .number → reply' ≡ replied (kindOf q) o reply → read ≡ size
+            → Puts out 0 (lineFor k lent) filled out' → number ≡ lent .number → reply' ≡ replied (asked q given reply) o reply → read ≡ size
             → x ≡ record { next = next; number = number; progress = record { read = read; written = filled; ended = 0 } }
             → came x ring' reply' out' ≡ onceIn r ring reply s offset out
         once-answers {x} {next} {number} {read} {filled} {ring'} {reply'} {out'} es p en ey er ex =
             let line : lineFor k lent ≡ lineFor k o
-            = ap (λ (b : Bare). lineOf k (record { number = b .number; values = b .values }) (b .state .box)) alike in
+            = ap (λ (b : Bare). lineOf k (b .number) (b .values) (b .state .box)) alike in
             through
             (ap (λ (x : One). came x ring' reply' out') ex
             ∙ came-saying o next ring' reply' out (lineFor k o) out' number read filled 0 (en ∙ ap (λ (b : Bare). b .number) alike)
             (es ∙ ap (λ (b : Bare). b .state) alike) (moved p line)
             ∙ ap (λ (y : List ℕ). saying o y out (lineFor k o) read 0) ey
-            ∙ ap (λ (m : ℕ). saying o (replied (kindOf q) o reply) out (lineFor k o) m 0) er
+            ∙ ap (λ (m : ℕ). saying o (replied (asked q given reply) o reply) out (lineFor k o) m 0) er
             ∙ sym (ap (λ z. oneOf z r ring reply offset out) h))

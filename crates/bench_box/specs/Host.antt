@@ -9,7 +9,7 @@ use Rattle.rules.specs.Record.{sound}
 use Rattle.rules.specs.Calls.{n604, numberOf, Outcome, nothing}
 use Rattle.rules.specs.Machine.{step}
 use Rattle.answers.specs.Told.{stateOf}
-use Rattle.answers.specs.Asked.{asked, kindOf, replied}
+use Rattle.answers.specs.Asked.{asked, replied}
 use Rattle.text.specs.Put.{fitting, over}
 use Rattle.line.specs.Line.{lineFor, lineRoom}
 use Rattle.stream.specs.Desk.{Heard, asks, wrong, heard, badLine}
@@ -103,7 +103,7 @@ idly r ring = record { number = 0; values = nothing; state = stateOf r ring; rep
 abbrev pub oneOf : Heard → Record → List ℕ → List ℕ → ℕ → List ℕ → Came
 oneOf (asks k q given size) r ring reply offset lines =
     let o = step (stateOf r ring) (asked q given reply) in
-    saying o (replied (kindOf q) o reply) lines (lineFor k o) size 0
+    saying o (replied (asked q given reply) o reply) lines (lineFor k o) size 0
 oneOf wrong r ring reply offset lines = saying (idly r ring) reply lines (badLine offset) 0 1
 
 abbrev pub onceIn : Record → List ℕ → List ℕ → List ℕ → ℕ → List ℕ → Came

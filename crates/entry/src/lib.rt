@@ -1,23 +1,12 @@
 // The tick entry: the box's second timer owns the record, lends it for each tick and finds it updated there.
-use answers::Done;
 use rules::Record;
 ghost use mathlib.Core.Path.{_≡_};
-ghost use Rattle.answers.specs.Told.{done};
 ghost use Rattle.entry.specs.Second.{secondOf};
 
 // A second's record and number.
 pub struct Ticked {
     pub next: Record,
     pub number: u16,
-}
-
-fn number_of(answer: Done) -> u16
-    ensures { λ n. ⌜ n ≡ done answer .number ⌝ }
-{
-    match answer {
-        Done::Accepted => 0,
-        Done::Refused(why) => why.number(),
-    }
 }
 
 // A second, for a ring of so many bytes.
@@ -30,7 +19,7 @@ pub fn second(r: Record, length: usize) -> Ticked
     let answer = after.answer;
     Ticked {
         next,
-        number: number_of(answer),
+        number: answer.number(),
     }
 }
 

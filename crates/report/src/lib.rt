@@ -58,7 +58,7 @@ pub fn side_ended(r: Record, ring: &[u8]) -> After
     if !state::scan::is_scanning(s) {
         return After::refused(Why::WrongState, r);
     }
-    After::done(sensors::end_side(r))
+    After::told(Answer::Done, sensors::end_side(r))
 }
 
 fn with_tray(value: u8, r: Record) -> Record
@@ -77,7 +77,7 @@ pub fn tray(r: Record, ring: &[u8], value: u8) -> After
     if !state::asked::is_marked(value) {
         return After::refused(Why::Unlisted, r);
     }
-    After::done(with_tray(value, r))
+    After::told(Answer::Done, with_tray(value, r))
 }
 
 pub fn path(r: Record, ring: &[u8], value: u8) -> After
@@ -89,7 +89,7 @@ pub fn path(r: Record, ring: &[u8], value: u8) -> After
     if !state::asked::is_marked(value) {
         return After::refused(Why::Unlisted, r);
     }
-    After::done(sensors::set_path(value, r))
+    After::told(Answer::Done, sensors::set_path(value, r))
 }
 
 // What a ring's bytes are matters to no second, only how many they are.
@@ -99,7 +99,7 @@ pub fn tick_in(r: Record, length: usize) -> After
     if !state::is_sound(r, length) {
         return After::refused(Why::Unsound, r);
     }
-    After::done(sensors::tick(r))
+    After::told(Answer::Done, sensors::tick(r))
 }
 
 pub fn tick(r: Record, ring: &[u8]) -> After

@@ -1,5 +1,6 @@
 // Stop and Abort.
 use answers::After;
+use answers::Answer;
 use answers::Why;
 use rules::Record;
 ghost use mathlib.Core.Path.{_≡_};
@@ -17,7 +18,7 @@ pub fn stop(r: Record, ring: &[u8], job: u32) -> After
     if state::asked::not_held(job, r) {
         return After::refused(Why::OtherJob, r);
     }
-    After::done(jobs::stop(r))
+    After::told(Answer::Done, jobs::stop(r))
 }
 
 pub fn abort(r: Record, ring: &[u8], job: u32) -> After
@@ -29,5 +30,5 @@ pub fn abort(r: Record, ring: &[u8], job: u32) -> After
     if state::asked::not_held(job, r) {
         return After::refused(Why::OtherJob, r);
     }
-    After::done(moves::end(r))
+    After::told(Answer::Done, moves::end(r))
 }

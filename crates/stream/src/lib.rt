@@ -11,7 +11,7 @@ ghost use lib.Dec.{leb};
 ghost use lib.ListN.{length};
 ghost use Rattle.rules.specs.Machine.{step};
 ghost use Rattle.answers.specs.Told.{stateOf};
-ghost use Rattle.answers.specs.Asked.{asked, kindOf, replied};
+ghost use Rattle.answers.specs.Asked.{asked, replied};
 ghost use Rattle.text.specs.Put.{Puts};
 ghost use Rattle.records.specs.Reading.{cutAt};
 ghost use Rattle.line.specs.Line.{lineFor, lineRoom};
@@ -54,17 +54,18 @@ pub fn answer(
         (t .filled) (now (out .exit)) ⌝ }
     ensures { λ t. ⌜ t .number ≡ step (stateOf r (now (ring .entry))) (callWith (length (now (reply .entry))) request (now (given .entry))) .number ⌝ }
     ensures { λ _. ⌜ now (reply .exit)
-        ≡ replied (kindOf request) (step (stateOf r (now (ring .entry))) (asked request (now (given .entry)) (now (reply .entry)))) (now (reply .entry)) ⌝ }
+        ≡ replied (asked request (now (given .entry)) (now (reply .entry)))
+        (step (stateOf r (now (ring .entry))) (asked request (now (given .entry)) (now (reply .entry)))) (now (reply .entry)) ⌝ }
 {
     let after = calls::perform(r, ring, request, given, reply);
     let next = after.next;
-    let name = after.name;
     let answer = after.answer;
-    let lined = line::put_line(out, at, kind, next, name, answer, reply);
+    let number = answer.number();
+    let filled = line::put_line(out, at, kind, number, next, answer, reply);
     Turn {
         next,
-        number: lined.number,
-        filled: lined.end,
+        number,
+        filled,
     }
 }
 

@@ -1,22 +1,22 @@
--- `entry::second`: the report's equation, at a ring of zeros.
-use borrow.Author.Needs.{needs}
+-- The report's equation, at a ring of zeros.
 use mathlib.Core.Path.{ap, _∙_}
 use Prim.Native.Nat.{ℕ}
 use lib.ListN.{length-replicate}
 use Rattle.rules.specs.Calls.{Outcome}
+use borrow.Author.Needs.{needs}
 use Rattle.entry.proofs.second.Statement.{statement}
 use Rattle.entry.proofs.second.Tie as tie
 
 tick-in-requires : tie.Need-tick-in-requires
 tick-in-requires c κs = search needs
 
-number-of-requires : tie.Need-number-of-requires
-number-of-requires c κs = search needs
+number-requires : tie.Need-number-requires
+number-requires c κs = search needs
 
 returns : tie.Need-returns
 returns c =
     let told = c .before .before .tick-in .ensures _ (length-replicate {A = ℕ} _ 0) in
-    (c .number-of .ensures ∙ ap (λ (o : Outcome). o .number) told, ap (λ (o : Outcome). o .state .box) told)
+    (c .number .ensures ∙ ap (λ (o : Outcome). o .number) told, ap (λ (o : Outcome). o .state .box) told)
 
 pub second-spec : {M : Type 1} → statement M
-second-spec = tie.close (tie.spec tick-in-requires number-of-requires returns)
+second-spec = tie.close (tie.spec tick-in-requires number-requires returns)

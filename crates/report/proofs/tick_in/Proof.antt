@@ -18,14 +18,14 @@ returns c = λ ring long. rw (c .refused .ensures, long) (leads (hit (search tes
 tick-requires : tie.Need-tick-requires
 tick-requires c κs = search needs
 
-done-requires : tie.Need-done-requires
-done-requires c κs = search needs
+told-requires : tie.Need-told-requires
+told-requires c κs = search needs
 
 returns-2 : tie.Need-returns-2
 unfolding step refusals reportRefusals effect reportEffect
-returns-2 c = λ ring long. rw (c .done .ensures, c .before .tick .ensures, long) (leads (skip (search tests) accept))
+returns-2 c = λ ring long. rw (c .told .ensures, c .before .tick .ensures, long) (leads (skip (search tests) accept))
 
 pub tick-in-spec : {M : Type 1} → statement M
 tick-in-spec =
     tie.close
-    (tie.spec is-sound-requires refused-requires returns tick-requires done-requires returns-2)
+    (tie.spec is-sound-requires refused-requires returns tick-requires told-requires returns-2)

@@ -28,12 +28,12 @@ returns-2 c = rw (c .refused2 .ensures) (leads (skip (search tests) (hit (search
 with-tray-requires : tie.Need-with-tray-requires
 with-tray-requires c κs = search needs
 
-done-requires : tie.Need-done-requires
-done-requires c κs = search needs
+told-requires : tie.Need-told-requires
+told-requires c κs = search needs
 
 returns-3 : tie.Need-returns-3
 unfolding step refusals reportRefusals effect reportEffect
-returns-3 c = rw (c .done .ensures, c .before .with-tray .ensures) (leads (skip (search tests) (skip (search tests) accept)))
+returns-3 c = rw (c .told .ensures, c .before .with-tray .ensures) (leads (skip (search tests) (skip (search tests) accept)))
 
 pub tray-spec : {M : Type 1} → statement M
 tray-spec =
@@ -46,5 +46,5 @@ tray-spec =
     refused-requires-2
     returns-2
     with-tray-requires
-    done-requires
+    told-requires
     returns-3)
