@@ -2,6 +2,7 @@
 pub mod mode;
 
 use answers::After;
+use answers::Answer;
 use answers::Why;
 use rules::Fed;
 use rules::Input;
@@ -37,7 +38,7 @@ fn by_rule(input: Input, r: Record) -> After
     if d.number == Fed::NO_SHEET {
         return After::refused(Why::NoSheet, n);
     }
-    After::done(n)
+    After::told(Answer::Done, n)
 }
 
 // 0 ejects one sheet, 1 and 2 all of them.

@@ -35,7 +35,7 @@ pub fn set_feeder_mode(r: Record, ring: &[u8], job: u32, mode: u8) -> After
     if !state::feed::is_unloaded(s) {
         return After::refused(Why::WrongState, r);
     }
-    After::done(r)
+    After::told(Answer::Done, r)
 }
 
 pub fn get_feeder_mode(r: Record, ring: &[u8]) -> After

@@ -28,8 +28,8 @@ refused-requires-3 c κs = search needs
 returns-3 : tie.Need-returns-3
 returns-3 c = rw (← (c .before .before .before .feed .ensures), ← (c .before .before .before .before .before .before .before .before .ask .ensures)) (search (needs, guards, numbers) depth 12)
 
-done-requires : tie.Need-done-requires
-done-requires c κs = search needs
+told-requires : tie.Need-told-requires
+told-requires c κs = search needs
 
 returns-4 : tie.Need-returns-4
 returns-4 c = rw (← (c .before .before .before .feed .ensures), ← (c .before .before .before .before .before .before .before .before .ask .ensures)) (search (needs, guards, numbers) depth 12)
@@ -37,4 +37,4 @@ returns-4 c = rw (← (c .before .before .before .feed .ensures), ← (c .before
 pub by-rule-spec : {M : Type 1} → statement M
 by-rule-spec =
     tie.close
-    (tie.spec ask-requires refused-requires returns refused-requires-2 returns-2 feed-requires refused-requires-3 returns-3 done-requires returns-4)
+    (tie.spec ask-requires refused-requires returns refused-requires-2 returns-2 feed-requires refused-requires-3 returns-3 told-requires returns-4)

@@ -45,12 +45,12 @@ returns-4 : tie.Need-returns-4
 unfolding step refusals feederRefusals effect feederEffect
 returns-4 c = rw (c .refused4 .ensures) (leads (skip (search tests) (skip (search tests) (skip (search tests) (hit (search tests))))))
 
-done-requires : tie.Need-done-requires
-done-requires c κs = search needs
+told-requires : tie.Need-told-requires
+told-requires c κs = search needs
 
 returns-5 : tie.Need-returns-5
 unfolding step refusals feederRefusals effect feederEffect
-returns-5 c = rw (c .done .ensures) (leads (skip (search tests) (skip (search tests) (skip (search tests) (skip (search tests) accept)))))
+returns-5 c = rw (c .told .ensures) (leads (skip (search tests) (skip (search tests) (skip (search tests) (skip (search tests) accept)))))
 
 pub set-feeder-mode-spec : {M : Type 1} → statement M
 set-feeder-mode-spec =
@@ -68,5 +68,5 @@ set-feeder-mode-spec =
     is-unloaded-requires
     refused-requires-4
     returns-4
-    done-requires
+    told-requires
     returns-5)
