@@ -35,7 +35,7 @@
     X(refused_sign)       /* a refused Stop is a sign of life */                                                       \
     X(ring_elsewhere)     /* Bytes change another byte of the ring */                                                  \
     X(asked_wrongly)      /* a question gets the wrong answer where a job is held */                                   \
-    X(asked_too_far)      /* question 18 gets an answer */                                                             \
+    X(asked_too_far)      /* one question more gets an answer */                                                       \
     X(asked_high)         /* question 2^32 is taken for 0 */                                                           \
     X(longest_ring)       /* a ring of 65,536 is never quite full */                                                   \
     X(destination_wrap)   /* DestinationID 4,294,967,295 goes to 1 */                                                  \
@@ -66,9 +66,19 @@ static const char *const names[] = {
 #undef X
 };
 
-enum { SCAN = 0, FEEDER = 2, JOB = 4, GRANTED = 8, QUIET = 9, SIDE_COUNT = 10, SIDE_NUMBER = 11 };
-enum { DESTINATION = 12, TRAY = 14, START = 16, STORED = 17 };
-enum { STOP = 0x03, FETCH = 0x06, GET_STATE = 0x07, LOAD = 0x10, BYTES = 0x20 };
+/* The words stand in the order of the questions. */
+enum {
+    FEEDER = BENCH_BOX_FEEDER_STATE,
+    JOB = BENCH_BOX_JOB,
+    GRANTED = BENCH_BOX_GRANTED,
+    QUIET = BENCH_BOX_QUIET,
+    SIDE_COUNT = BENCH_BOX_SIDE_COUNT,
+    SIDE_NUMBER = BENCH_BOX_SIDE_NUMBER,
+    DESTINATION = BENCH_BOX_DESTINATION,
+    TRAY = BENCH_BOX_TRAY,
+    START = BENCH_BOX_START,
+    STORED = BENCH_BOX_STORED,
+};
 
 static enum wrong wrong(void)
 {
@@ -87,6 +97,13 @@ static enum wrong wrong(void)
 static void touch(const volatile uint8_t *byte)
 {
     (void)*byte;
+}
+
+static void flip(volatile uint8_t *thing, ptrdiff_t place)
+{
+    if (thing != NULL) {
+        thing[place] ^= 1;
+    }
 }
 
 /* What is wrong with any call of a box. */
@@ -160,20 +177,22 @@ static void spoil_record(const struct lent *lent, uint8_t kind, uint16_t number)
     static bool fetched;
     uint64_t *words = lent->box->words;
     const uint64_t *before = lent->before.words;
-    if (wrong() == refused_sign && kind == STOP && number != 0) {
+    if (wrong() == refused_sign && kind == BENCH_BOX_KIND_STOP && number != 0) {
         words[QUIET] = 0;
-    } else if (wrong() == ring_elsewhere && kind == BYTES && number == 0 && words[STORED] + 100 < lent->ring_length) {
+    } else if (wrong() == ring_elsewhere && kind == BENCH_BOX_KIND_BYTES && number == 0 &&
+               words[STORED] + 100 < lent->ring_length) {
         lent->ring[(words[START] + words[STORED] + 50) % lent->ring_length] ^= 1;
-    } else if (wrong() == load_713 && kind == LOAD && number == 713) {
+    } else if (wrong() == load_713 && kind == BENCH_BOX_KIND_LOAD && number == 713) {
         words[FEEDER] = before[FEEDER];
-    } else if (wrong() == first_after_fetch && kind == GET_STATE && fetched && lent->progress->written > 4) {
+    } else if (wrong() == first_after_fetch && kind == BENCH_BOX_KIND_GET_STATE && fetched &&
+               lent->progress->written > 4) {
         lent->lines[3] = '1';
     } else if (wrong() == longest_ring && lent->ring_length == 65536 && words[STORED] == 65536) {
         words[STORED] = 65535;
     } else if (wrong() == destination_wrap && before[DESTINATION] == UINT32_MAX && words[DESTINATION] == 0) {
         words[DESTINATION] = 1;
     }
-    fetched = kind == FETCH && number == 0 && before[STORED] > words[STORED];
+    fetched = kind == BENCH_BOX_KIND_FETCH && number == 0 && before[STORED] > words[STORED];
 }
 
 static void spoil_text(const struct lent *lent)
@@ -201,34 +220,22 @@ static void spoil_memory(const struct lent *lent, uint16_t number)
     bool unsound = number == BENCH_BOX_UNSOUND;
     switch (wrong()) {
     case before_ring:
-        if (lent->ring != NULL) {
-            ((volatile uint8_t *)lent->ring)[-1] ^= 1;
-        }
+        flip(lent->ring, -1);
         break;
     case behind_ring:
-        if (lent->ring != NULL) {
-            lent->ring[lent->ring_length] ^= 1;
-        }
+        flip(lent->ring, (ptrdiff_t)lent->ring_length);
         break;
     case before_reply:
-        if (lent->reply != NULL) {
-            ((volatile uint8_t *)lent->reply)[-1] ^= 1;
-        }
+        flip(lent->reply, -1);
         break;
     case behind_reply:
-        if (lent->reply != NULL) {
-            lent->reply[lent->reply_length] ^= 1;
-        }
+        flip(lent->reply, (ptrdiff_t)lent->reply_length);
         break;
     case before_lines:
-        if (lent->lines != NULL) {
-            ((volatile uint8_t *)lent->lines)[-1] ^= 1;
-        }
+        flip(lent->lines, -1);
         break;
     case behind_lines:
-        if (lent->lines != NULL) {
-            lent->lines[lent->lines_length] ^= 1;
-        }
+        flip(lent->lines, (ptrdiff_t)lent->lines_length);
         break;
     case reads_past_input:
         if (lent->input != NULL) {
@@ -316,8 +323,8 @@ uint64_t broken_ask(const bench_box *box, size_t ring_length, size_t question)
     if (wrong() == asked_wrongly && question == BENCH_BOX_QUIET && value != BENCH_BOX_NONE) {
         return value + (box->words[JOB] > 1);
     }
-    if (wrong() == asked_too_far && question == 18 && value == BENCH_BOX_NONE) {
-        return bench_box_ask(box, ring_length, 17);
+    if (wrong() == asked_too_far && question == BENCH_BOX_WORDS && value == BENCH_BOX_NONE) {
+        return bench_box_ask(box, ring_length, BENCH_BOX_WORDS - 1);
     }
     if (wrong() == asked_high && question == (size_t)1 << 32) {
         return bench_box_ask(box, ring_length, 0);

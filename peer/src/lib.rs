@@ -12,10 +12,10 @@ mod text;
 mod wire;
 
 pub use desk::{perform, serve, tick, Progress};
-pub use record::{FailureCode, FeederState, Granted, Record, ScanState, RING_MOST, WORDS};
+pub use record::{FailureCode, FeederState, Granted, Record, ScanState, NAMES, RING_MOST, WORDS};
 pub use rules::Reason;
 pub use text::LINE_MOST;
-pub use wire::{kind, read, write, Reading, KINDS};
+pub use wire::{kind, read, write, Field, Listed, Reading, KINDS, LISTED};
 
 /// The desk program's ring: "with a 4,096-byte ring".
 pub const DESK_RING: usize = 4096;

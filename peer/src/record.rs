@@ -3,6 +3,28 @@
 /// How many words a record is told in.
 pub const WORDS: usize = 18;
 
+/// The fields by their places in the words.
+pub const NAMES: [&str; WORDS] = [
+    "scan state",
+    "scan FailureCode",
+    "feeder state",
+    "feeder FailureCode",
+    "job",
+    "last job",
+    "UseFeeder",
+    "Append",
+    "granted",
+    "quiet",
+    "SideCount",
+    "SideNumber",
+    "DestinationID",
+    "stop asked",
+    "tray",
+    "path",
+    "start",
+    "stored",
+];
+
 /// "The ring has 1 to 65,536 bytes."
 pub const RING_MOST: usize = 65_536;
 

@@ -31,28 +31,92 @@ pub mod kind {
     pub const TICK: u8 = 0x24;
 }
 
-/// "Kinds (hex) with payload length": kind, least and greatest payload length.
-pub const KINDS: [(u8, u8, u8); 19] = [
-    (kind::START_SCAN, 6, 6),
-    (kind::START, 7, 7),
-    (kind::STOP, 4, 4),
-    (kind::ABORT, 4, 4),
-    (kind::GET_DESTINATION, 4, 4),
-    (kind::FETCH, 1, 255),
-    (kind::GET_STATE, 0, 0),
-    (kind::GET_SIDE_INFORMATION, 0, 0),
-    (kind::LOAD, 4, 4),
-    (kind::EJECT, 5, 5),
-    (kind::RESET, 4, 4),
-    (kind::SET_FEEDER_MODE, 5, 5),
-    (kind::FEEDER_GET_STATE, 0, 0),
-    (kind::GET_FEEDER_MODE, 0, 0),
-    (kind::BYTES, 0, 255),
-    (kind::SIDE_ENDED, 0, 0),
-    (kind::TRAY, 1, 1),
-    (kind::PATH, 1, 1),
-    (kind::TICK, 0, 0),
-];
+/// What payloads are made of, in the paper's words.
+#[derive(Clone, Copy, PartialEq, Eq, Debug)]
+pub enum Field {
+    Job,
+    UseFeeder,
+    SideCount,
+    Append,
+    Time,
+    Most,
+    Name,
+    /// Of Eject.
+    Value,
+    Mode,
+    Picture,
+    Tray,
+    Path,
+}
+
+impl Field {
+    /// Least and greatest length.
+    pub const fn lengths(self) -> (u8, u8) {
+        match self {
+            Field::Job => (4, 4),
+            Field::SideCount | Field::Time => (2, 2),
+            Field::Name => (0, 254),
+            Field::Picture => (0, 255),
+            _ => (1, 1),
+        }
+    }
+}
+
+/// A kind, the fields of its payload, and the numbers that the paper names for it beside 0 and 604.
+pub struct Listed {
+    pub kind: u8,
+    pub fields: &'static [Field],
+    pub numbers: &'static [u16],
+}
+
+const fn listed(kind: u8, fields: &'static [Field], numbers: &'static [u16]) -> Listed {
+    Listed { kind, fields, numbers }
+}
+
+/// "Kinds (hex) with payload length", in the paper's order.
+pub const LISTED: [Listed; 19] = {
+    use Field::*;
+    [
+        listed(kind::START_SCAN, &[UseFeeder, SideCount, Append, Time], &[601, 501, 711, 713]),
+        listed(kind::START, &[Job, UseFeeder, SideCount], &[601, 712, 501, 711, 713]),
+        listed(kind::STOP, &[Job], &[712]),
+        listed(kind::ABORT, &[Job], &[712]),
+        listed(kind::GET_DESTINATION, &[Job], &[712]),
+        listed(kind::FETCH, &[Most, Name], &[404, 603]),
+        listed(kind::GET_STATE, &[], &[]),
+        listed(kind::GET_SIDE_INFORMATION, &[], &[]),
+        listed(kind::LOAD, &[Job], &[712, 501, 711, 713]),
+        listed(kind::EJECT, &[Job, Value], &[601, 712, 501, 711]),
+        listed(kind::RESET, &[Job], &[712, 501]),
+        listed(kind::SET_FEEDER_MODE, &[Job, Mode], &[601, 712, 501]),
+        listed(kind::FEEDER_GET_STATE, &[], &[]),
+        listed(kind::GET_FEEDER_MODE, &[], &[]),
+        listed(kind::BYTES, &[Picture], &[501, 603]),
+        listed(kind::SIDE_ENDED, &[], &[501]),
+        listed(kind::TRAY, &[Tray], &[601]),
+        listed(kind::PATH, &[Path], &[601]),
+        listed(kind::TICK, &[], &[]),
+    ]
+};
+
+/// Kind, least and greatest payload length.
+pub const KINDS: [(u8, u8, u8); LISTED.len()] = {
+    let mut kinds = [(0, 0, 0); LISTED.len()];
+    let mut row = 0;
+    while row < LISTED.len() {
+        let Listed { kind, fields, .. } = LISTED[row];
+        let (mut least, mut most, mut field) = (0, 0, 0);
+        while field < fields.len() {
+            let (shortest, longest) = fields[field].lengths();
+            least += shortest;
+            most += longest;
+            field += 1;
+        }
+        kinds[row] = (kind, least, most);
+        row += 1;
+    }
+    kinds
+};
 
 /// Least and greatest payload length by kind, laid out from the table. A kind that is not listed has no length.
 static LENGTHS: [(u8, u8); 256] = {

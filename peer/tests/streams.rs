@@ -1,15 +1,13 @@
-//! Whole streams: the paper's example, its prefixes, and a folder of streams with their right text.
+//! Whole streams: the cases that the box is held to, from the same files; the paper's example and its prefixes; bad records.
 
 mod common;
 
-use std::ffi::OsStr;
 use std::fs;
 use std::io::Write;
-use std::path::PathBuf;
 use std::process::{Command, Stdio};
 
-use common::{text_at_once, text_in_windows};
-use peer::LINE_MOST;
+use common::{text_in_windows, Bench};
+use peer::{perform, read, serve, Progress, Reading, Record, ScanState, DESK_REPLY, DESK_RING, LINE_MOST};
 
 /// The example's records, and its lines.
 const EXAMPLE: [(&str, &str); 5] = [
@@ -22,11 +20,6 @@ const EXAMPLE: [(&str, &str); 5] = [
 
 fn unhex(text: &str) -> Vec<u8> {
     text.as_bytes().chunks(2).map(|pair| u8::from_str_radix(std::str::from_utf8(pair).unwrap(), 16).unwrap()).collect()
-}
-
-fn example() -> (Vec<u8>, String) {
-    let records = EXAMPLE.iter().flat_map(|(record, _)| unhex(record)).collect();
-    (records, EXAMPLE.iter().map(|(_, line)| *line).collect())
 }
 
 /// The desk program's text. It ends well.
@@ -46,23 +39,22 @@ fn text_of_program(input: &[u8]) -> String {
 }
 
 /// The same text however the input comes and however much room there is.
-fn assert_text(input: &[u8], right: &str) {
-    assert_eq!(text_at_once(input), right);
-    for (step, room) in [(1, LINE_MOST), (1, 5000), (3, 1279), (7, 1280), (259, 641), (1000, LINE_MOST)] {
-        assert_eq!(text_in_windows(input, step, room), right, "step {step}, room {room}");
+fn assert_windows(bench: &Bench, input: &[u8], right: &str) {
+    let whole = (input.len().max(1), LINE_MOST * (input.len() + 1));
+    for (step, room) in [whole, (1, LINE_MOST), (1, 5000), (3, 1279), (7, 1280), (259, 641), (1000, LINE_MOST)] {
+        assert_eq!(text_in_windows(bench.clone(), input, step, room), right, "step {step}, room {room}");
     }
+}
+
+/// A fresh desk's text, and the desk program's.
+fn assert_text(input: &[u8], right: &str) {
+    assert_windows(&Bench::desk(), input, right);
     assert_eq!(text_of_program(input), right);
 }
 
 #[test]
-fn example_of_the_paper() {
-    let (input, right) = example();
-    assert_text(&input, &right);
-}
-
-#[test]
 fn every_prefix_of_the_example() {
-    let (input, _) = example();
+    let input: Vec<u8> = EXAMPLE.iter().flat_map(|(record, _)| unhex(record)).collect();
     for length in 0..=input.len() {
         let mut right = String::new();
         let mut place = 0;
@@ -78,11 +70,6 @@ fn every_prefix_of_the_example() {
         }
         assert_text(&input[..length], &right);
     }
-}
-
-#[test]
-fn empty_input_prints_nothing() {
-    assert_text(&[], "");
 }
 
 #[test]
@@ -138,24 +125,84 @@ fn long_input_goes_through_the_program() {
     assert!(text_of_program(&cut).ends_with("-\nbad 400000\n"));
 }
 
-/// The streams of the folder that PEER_VECTORS names: NAME.desk with its right text in NAME.txt.
-#[test]
-fn streams_of_the_folder() {
-    let Some(folder) = std::env::var_os("PEER_VECTORS") else {
-        eprintln!("PEER_VECTORS is not set: no folder of streams");
-        return;
-    };
-    let mut streams: Vec<PathBuf> = fs::read_dir(&folder)
-        .expect("PEER_VECTORS names a folder")
-        .map(|entry| entry.unwrap().path())
-        .filter(|path| path.extension() == Some(OsStr::new("desk")))
-        .collect();
-    streams.sort();
-    assert!(!streams.is_empty());
-    for stream in &streams {
-        let input = fs::read(stream).unwrap();
-        let right = fs::read_to_string(stream.with_extension("txt")).unwrap();
-        assert_text(&input, &right);
+/// The box's cases. crates/test_desk/src/main.rt says how their list reads.
+const CASES: &str = concat!(env!("CARGO_MANIFEST_DIR"), "/../crates/test_desk/data");
+
+/// The record that a word of the list names.
+fn start_record(word: &str) -> Record {
+    let fresh = Record::fresh();
+    match word {
+        "fresh" => fresh,
+        "unsound" => Record { side_number: 2, ..fresh },
+        "side_998" => Record { scan: ScanState::Pending, job: 1, last_job: 1, side_number: 998, ..fresh },
+        number => {
+            let last = number.parse().expect("a number");
+            Record { last_job: last, destination: last, ..fresh }
+        }
     }
-    eprintln!("{} streams", streams.len());
+}
+
+/// A stream's bytes: those of a .desk file, or the digits of a .hex file without its comments.
+fn stream(path: &str) -> Vec<u8> {
+    let file = fs::read(path).unwrap();
+    if path.ends_with(".desk") {
+        return file;
+    }
+    let text = String::from_utf8(file).unwrap();
+    let lines = text.lines().filter_map(|line| line.split('#').next());
+    unhex(&lines.flat_map(|line| line.split(' ')).collect::<String>())
+}
+
+/// One record after the other: a refusal leaves all as it was, and the lines are the right ones.
+fn assert_records(mut bench: Bench, input: &[u8], right: &str) {
+    let mut place = 0;
+    let mut lines = right.lines();
+    while let Reading::Record { next, .. } = read(input, place) {
+        let mut again = bench.clone();
+        let (number, line) = bench.try_record(&input[place..next]);
+        assert_eq!((again.number(&input[place..next]), Some(&line[..])), (number, lines.next()));
+        place = next;
+    }
+    let bad = format!("bad {place}");
+    assert_eq!(lines.collect::<Vec<_>>(), if place < input.len() { vec![&bad[..]] } else { vec![] });
+}
+
+/// With a record that is not sound nothing is done; the desk's line for each of its records is 604 and tells it as it was.
+fn assert_unsound(mut bench: Bench, input: &[u8], right: &str) {
+    let Bench { record: before, ring, .. } = bench.clone();
+    let nothing = (604, Progress { read: 0, written: 0, ended: false });
+    let mut place = 0;
+    let mut lines = String::new();
+    while let Reading::Record { kind, next, .. } = read(input, place) {
+        let (record, mut line) = (&input[place..next], [0; LINE_MOST]);
+        assert_eq!(serve(&mut bench.record, &mut bench.ring, record, 0, true, &mut line), nothing);
+        assert_eq!(perform(&mut bench.record, &mut bench.ring, &mut bench.reply, record, 0, &mut line), nothing);
+        lines += &format!("{kind:02X} 604 I U 0 {} 0 -\n", before.side_number);
+        place = next;
+    }
+    assert_eq!((bench.record, bench.ring, &lines[..]), (before, ring, right));
+}
+
+/// The cases that the box is held to.
+#[test]
+fn cases_of_the_box() {
+    let list = fs::read_to_string(format!("{CASES}/list")).unwrap();
+    for line in list.lines() {
+        let [name, kind, ring, start, _] = line.split(' ').collect::<Vec<_>>()[..] else { panic!("{line}") };
+        println!("{name}");
+        let input = stream(&format!("{CASES}/{name}{kind}"));
+        let right = fs::read_to_string(format!("{CASES}/{name}.txt")).unwrap();
+        let mut bench = Bench::new(ring.parse().unwrap(), DESK_REPLY);
+        bench.record = start_record(start);
+        if !bench.record.is_sound(bench.ring.len()) {
+            assert_unsound(bench, &input, &right);
+            continue;
+        }
+        assert_windows(&bench, &input, &right);
+        if bench.record == Record::fresh() && bench.ring.len() == DESK_RING {
+            assert_eq!(text_of_program(&input), right);
+        }
+        assert_records(bench, &input, &right);
+    }
+    assert!(list.lines().count() > 100);
 }

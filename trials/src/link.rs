@@ -1,20 +1,20 @@
 //! The box program at the other end of two pipes.
 
-use crate::wire::{HEAD, MARK, TOUCHED};
 use std::io::{self, Read, Write};
 use std::process::{Child, Command, Stdio};
-use std::sync::mpsc::{channel, Receiver, Sender};
+use std::sync::mpsc::{channel, Receiver, RecvTimeoutError, Sender};
 use std::thread;
 use std::time::Duration;
 
+/// The head of a batch and of its answers: this mark, a status, how many bytes follow.
+const MARK: u32 = 0x5441_4F42;
+pub const HEAD: usize = 16;
+
+/// The status of answers that end where memory is touched that is not lent.
+const TOUCHED: u32 = 1;
+
 /// How long a batch may take.
 const PATIENCE: Duration = Duration::from_secs(60);
-
-/// A batch's answers, whole or up to where memory is touched.
-struct Answered {
-    whole: bool,
-    answers: Vec<u8>,
-}
 
 /// The box program gives no more answers.
 pub struct Ended {
@@ -26,7 +26,7 @@ pub struct Ended {
 pub struct Link {
     child: Child,
     to: Sender<Vec<u8>>,
-    from: Receiver<io::Result<Answered>>,
+    from: Receiver<io::Result<(u32, Vec<u8>)>>,
 }
 
 impl Link {
@@ -37,18 +37,12 @@ impl Link {
         let mut out = child.stdout.take().expect("a pipe");
         let (to, batches) = channel::<Vec<u8>>();
         let (say, from) = channel();
-        thread::spawn(move || {
-            // A program that has ended is told where its answer is missed.
-            for batch in batches {
-                if into.write_all(&batch).is_err() {
-                    break;
-                }
-            }
-        });
+        // A program that has ended is told where its answers are missed.
+        thread::spawn(move || batches.iter().try_for_each(|batch| into.write_all(&batch)));
         thread::spawn(move || loop {
-            let answered = read_answers(&mut out);
-            let over = answered.is_err();
-            if say.send(answered).is_err() || over {
+            let answers = read_answers(&mut out);
+            let over = answers.is_err();
+            if say.send(answers).is_err() || over {
                 break;
             }
         });
@@ -65,47 +59,37 @@ impl Link {
 
     /// The answers to the batch that was sent first.
     pub fn receive(&mut self) -> Result<Vec<u8>, Ended> {
-        match self.from.recv_timeout(PATIENCE) {
-            Ok(Ok(Answered { whole: true, answers })) => Ok(answers),
-            Ok(Ok(Answered { answers, .. })) => Err(Ended { touched: Some(answers), why: String::new() }),
-            Ok(Err(error)) if error.kind() == io::ErrorKind::InvalidData => {
-                self.end();
-                Err(Ended { touched: None, why: format!("the box program answers {error}") })
+        let why = match self.from.recv_timeout(PATIENCE) {
+            Ok(Ok((0, answers))) => return Ok(answers),
+            Ok(Ok((_, answers))) => return Err(Ended { touched: Some(answers), why: String::new() }),
+            Ok(Err(error)) if error.kind() == io::ErrorKind::InvalidData => format!("the box program answers {error}"),
+            Err(RecvTimeoutError::Timeout) => {
+                format!("the box program does not answer for {} seconds", PATIENCE.as_secs())
             }
-            Ok(Err(_)) => {
+            _ => {
                 // Its pipe is closed, so it is about to end, if it has not.
                 thread::sleep(Duration::from_millis(200));
                 let status = self.child.try_wait().ok().flatten();
                 let status = status.map_or("it still runs".to_string(), |status| status.to_string());
-                self.end();
-                Err(Ended { touched: None, why: format!("the box program ends ({status})") })
+                format!("the box program ends ({status})")
             }
-            Err(_) => {
-                self.end();
-                let why = format!("the box program does not answer for {} seconds", PATIENCE.as_secs());
-                Err(Ended { touched: None, why })
-            }
-        }
-    }
-
-    fn end(&mut self) {
+        };
         let _ = self.child.kill();
         let _ = self.child.wait();
+        Err(Ended { touched: None, why })
     }
 }
 
-fn read_answers(out: &mut impl Read) -> io::Result<Answered> {
+/// The status of answers, and the answers.
+fn read_answers(out: &mut impl Read) -> io::Result<(u32, Vec<u8>)> {
     let mut head = [0; HEAD];
     out.read_exact(&mut head)?;
-    let [mark, status, low, high] =
+    let [mark, status, length, _] =
         [0, 4, 8, 12].map(|place| u32::from_le_bytes([head[place], head[place + 1], head[place + 2], head[place + 3]]));
     if mark != MARK || status > TOUCHED {
         return Err(io::Error::new(io::ErrorKind::InvalidData, format!("what is no answer: {head:02X?}")));
     }
-    let length = (high as u64) << 32 | low as u64;
-    let mut answers = Vec::new();
-    if out.take(length).read_to_end(&mut answers)? as u64 != length {
-        return Err(io::ErrorKind::UnexpectedEof.into());
-    }
-    Ok(Answered { whole: status != TOUCHED, answers })
+    let mut answers = vec![0; length as usize];
+    out.read_exact(&mut answers)?;
+    Ok((status, answers))
 }

@@ -2,48 +2,55 @@
 //!
 //! The peer answers at once. The box program gets the same operations in batches, and answers one batch while the peer
 //! is at the next. What one call's answer gives to the next call comes from the peer: where the box has another answer,
-//! the batch differs. For telling, a pair compares each call at once.
+//! the batch differs.
 
-use crate::case::Case;
-use crate::link::{Ended, Link};
+use crate::case::{Call, Case, Input, Model, Start, BLANK, NOT_ASKED};
+use crate::link::{Ended, Link, HEAD};
 use crate::rng::Rng;
-use crate::streams::kind;
 use crate::wire::*;
-use crate::words::{is_sound, Words, FEEDER, FRESH, UNLOADED};
-use peer::Record;
-use std::panic::{catch_unwind, AssertUnwindSafe};
-use std::sync::atomic::{AtomicU64, Ordering};
+use peer::{kind, FeederState, Record, WORDS};
+use std::fmt::{Display, Formatter};
+use std::ops::Range;
+use std::rc::Rc;
+use std::sync::Mutex;
 
 /// The longest ring that is lent: one byte too long.
 pub const RING_ROOM: usize = 65_537;
-/// The longest reply that is lent.
-pub const REPLY_ROOM: usize = 1024;
 /// The longest lines that are lent.
 pub const LINES_ROOM: usize = 4 << 20;
 
-/// What lines hold at first.
-const BLANK: u8 = 0xD7;
-
 /// So many bytes behind the text are looked at for changes, and now and then all.
-const WATCHED: u32 = 2048;
+const WATCHED: usize = 2048;
 
 /// A batch of so many bytes or answers goes to the box.
 const BATCH_BYTES: usize = 400_000;
 const BATCH_ANSWERS: usize = 4000;
 
-/// What the box has where the peer fails by itself.
-pub const NOT_ASKED: &str = "(not asked)";
+/// Where a trial is. A part's name begins with its number.
+#[derive(Clone, Copy)]
+pub struct Place {
+    pub part: &'static str,
+    pub number: u64,
+    pub seed: u64,
+}
 
-/// The part, the case and the seed that the trial is at.
-pub static PLACE: [AtomicU64; 3] = [const { AtomicU64::new(0) }; 3];
+impl Display for Place {
+    fn fmt(&self, to: &mut Formatter) -> std::fmt::Result {
+        write!(to, "part {}, case {}, seed {}", self.part, self.number, self.seed)
+    }
+}
+
+/// Where the trial is now. A panic is told with it.
+pub static PLACE: Mutex<Place> = Mutex::new(Place { part: "0", number: 0, seed: 0 });
+
+pub fn place() -> Place {
+    *PLACE.lock().unwrap_or_else(|error| error.into_inner())
+}
 
 /// A case whose answers are not all compared yet.
 pub struct Kept {
-    pub part: &'static str,
-    pub number: u64,
+    pub place: Place,
     pub case: Case,
-    /// Of a lent call.
-    pub memory: Option<Memory>,
     /// Where its answers end in the batch.
     end: usize,
 }
@@ -62,18 +69,9 @@ impl Batch {
         Batch { operations: vec![0; HEAD], expected: Vec::new(), ends: Vec::new(), cases: Vec::new() }
     }
 
-    /// Where an answer belongs to; the whole batch where there is no such answer.
-    fn place(&self, at: Option<usize>) -> String {
-        let [part, case, seed] = PLACE.each_ref().map(|place| place.load(Ordering::Relaxed));
-        let number = |part: &'static str| part.split(',').next().unwrap_or(part);
-        let kept = at.and_then(|at| self.cases.iter().find(|kept| kept.end > at));
-        match (kept, self.cases.first(), self.cases.last()) {
-            (Some(kept), ..) => format!("part {}, case {}, seed {seed}", number(kept.part), kept.number),
-            (_, Some(first), Some(last)) if at.is_none() => {
-                format!("part {}, cases {} to {}, seed {seed}", number(first.part), first.number, last.number)
-            }
-            _ => format!("part {part}, case {case}, seed {seed}"),
-        }
+    /// Where an answer belongs to.
+    fn place(&self, at: usize) -> Place {
+        self.cases.iter().find(|kept| kept.end > at).map_or(place(), |kept| kept.place)
     }
 
     /// The first answer that differs.
@@ -84,11 +82,7 @@ impl Batch {
         let place = answers.iter().zip(&self.expected).take_while(|(ours, theirs)| ours == theirs).count();
         let at = self.ends.partition_point(|&end| end <= place);
         let from = at.checked_sub(1).map_or(0, |before| self.ends[before]);
-        let difference = match [Answer::read(&answers[from..]), Answer::read(&self.expected[from..])] {
-            [Some(proved), Some(peer)] if proved != peer => differs(&proved, &peer),
-            _ => Difference::new("how many answers there are", "other", self.ends.len().to_string()),
-        };
-        Some((at, difference))
+        Some((at, differs(&answers[from..], &self.expected[from..])))
     }
 }
 
@@ -99,46 +93,24 @@ pub struct Shown {
     pub kept: Option<Kept>,
 }
 
-/// A call of its own, with memory of its own.
-pub struct Lending {
-    pub words: Words,
-    /// Lengths, and where in the table the bytes stand.
-    pub ring: (usize, usize),
-    pub reply: (usize, usize),
-    pub lines: (usize, usize),
-    pub input: Vec<u8>,
-    pub offset: u64,
-    /// Serve with this last; else perform.
-    pub serve: Option<bool>,
-}
-
 pub struct Pair {
     link: Link,
     batch: Batch,
     sent: Option<Batch>,
-    /// Each call is compared before the next one.
-    pub at_once: bool,
-    /// What the box and the peer left in the last call, where calls are compared at once.
-    pub seen: [Answer; 2],
     /// Random bytes that rings and replies hold at first.
     table: Vec<u8>,
-    /// The peer's record; none where the words are no record.
-    record: Option<Record>,
-    words: Words,
-    /// What is lent to the peer, and what it held before the call.
-    ring: Vec<u8>,
+    pub model: Model,
+    /// What the peer's ring and lines held before the call.
     ring_before: Vec<u8>,
-    reply: Vec<u8>,
-    lines: Vec<u8>,
     lines_before: Vec<u8>,
-    room: usize,
+    /// Where in the table the ring's first bytes stand, and whether it still holds them.
     fill: usize,
     is_as_filled: bool,
-    /// Calls with lent replies or lines since the last reset.
+    /// The stream that the box holds.
+    held: Option<Rc<[u8]>>,
+    /// Calls since the last reset.
     turn: usize,
-    /// What the peer came to in the last call.
-    pub came: Came,
-    /// How many ticks, performs and serves both sides answer, and how many questions.
+    /// How many calls both sides answer, and how many questions.
     pub calls: u64,
     pub questions: u64,
 }
@@ -150,25 +122,18 @@ impl Pair {
             link: Link::start(program)?,
             batch: Batch::new(),
             sent: None,
-            at_once: false,
-            seen: [Answer::default(), Answer::default()],
             table: Rng::new(0x0B0B).bytes(3 * RING_ROOM),
-            record: None,
-            words: [0; 18],
-            ring: Vec::new(),
+            model: Model { lines: vec![BLANK; LINES_ROOM], ..Model::new(&[0; WORDS], Vec::new()) },
             ring_before: Vec::new(),
-            reply: Vec::new(),
-            lines: vec![BLANK; LINES_ROOM],
             lines_before: vec![BLANK; LINES_ROOM],
-            room: 0,
             fill: 0,
             is_as_filled: false,
+            held: None,
             turn: 0,
-            came: Came::default(),
             calls: 0,
             questions: 0,
         };
-        Operation { input: &pair.table, ..Operation::new(Kind::Fill) }.put(&mut pair.batch.operations);
+        pair.set(Kind::Fill, (0, 0), &pair.table.clone());
         pair.send();
         Ok(pair)
     }
@@ -176,8 +141,8 @@ impl Pair {
     // ---- batches
 
     /// All since the last case is of this one.
-    pub fn keep(&mut self, part: &'static str, number: u64, case: Case, memory: Option<Memory>) {
-        self.batch.cases.push(Kept { part, number, case, memory, end: self.batch.ends.len() });
+    pub fn keep(&mut self, case: Case) {
+        self.batch.cases.push(Kept { place: place(), case, end: self.batch.ends.len() });
     }
 
     pub fn is_full(&self) -> bool {
@@ -201,6 +166,7 @@ impl Pair {
     /// What is asked so far does not matter any more.
     pub fn forget(&mut self) {
         self.batch = Batch::new();
+        self.held = None;
         let _ = self.compare_sent();
     }
 
@@ -213,324 +179,182 @@ impl Pair {
     fn compare_sent(&mut self) -> Option<Shown> {
         let batch = self.sent.take()?;
         let answers = self.link.receive().unwrap_or_else(|ended| tell_end(&batch, ended));
-        if self.at_once {
-            self.seen = [&answers, &batch.expected].map(|bytes| Answer::read(bytes).unwrap_or_default());
-        }
         let (at, difference) = batch.compare(&answers)?;
         Some(Shown { at, difference, kept: batch.cases.into_iter().find(|kept| kept.end > at) })
     }
 
-    /// An answer is expected.
-    fn expect(&mut self) -> Result<(), Difference> {
-        self.batch.ends.push(self.batch.expected.len());
-        if self.at_once {
-            return self.settle().map_or(Ok(()), |shown| Err(shown.difference));
-        }
-        Ok(())
+    // ---- the box
+
+    /// An operation that is no call.
+    fn set(&mut self, kind: Kind, ring: (usize, usize), bytes: &[u8]) {
+        let operations = &mut self.batch.operations;
+        put_operation(operations, &Call::plain(kind), Memory::Usual, (false, 0), [ring.0, ring.1, 0], bytes);
     }
 
-    // ---- the box between calls
-
-    /// Begins anew: these words and a ring of this length, its bytes fixed by fill.
-    pub fn reset(&mut self, words: &Words, ring_length: usize, fill: u64) {
+    /// Begins anew.
+    pub fn reset(&mut self, start: &Start) {
+        let Start { words, ring_length, fill } = *start;
         let fill = fill as usize % RING_ROOM;
-        self.words = *words;
-        self.record = Record::from_words(words);
+        self.model.words = words;
+        self.model.record = Record::from_words(&words);
         self.turn = 0;
-        let ring = (ring_length, fill);
-        Operation { words: Some(words), ring, ..Operation::new(Kind::Reset) }.put(&mut self.batch.operations);
-        if self.is_as_filled && (self.ring.len(), self.fill) == ring {
+        let bytes = words.map(u64::to_le_bytes).concat();
+        self.set(Kind::Reset, (fill, ring_length), &bytes);
+        if self.is_as_filled && (self.fill, self.model.ring.len()) == (fill, ring_length) {
             return;
         }
         self.fill = fill;
-        for ring in [&mut self.ring, &mut self.ring_before] {
+        for ring in [&mut self.model.ring, &mut self.ring_before] {
             ring.clear();
             ring.extend_from_slice(&self.table[fill..fill + ring_length]);
         }
         self.is_as_filled = true;
     }
 
-    pub fn ring(&self) -> &[u8] {
-        &self.ring
-    }
-
-    pub fn words(&self) -> Words {
-        self.words
-    }
-
-    pub fn record(&self) -> Option<Record> {
-        self.record
-    }
-
-    /// The text of the last call.
-    pub fn text(&self) -> &[u8] {
-        &self.lines[..self.came.written]
-    }
-
-    pub fn tick(&mut self) -> Result<Came, Difference> {
-        let before = self.words;
-        let length = self.ring.len();
-        self.reply.clear();
-        self.room = 0;
-        self.ask_peer(|record, _| Came { number: peer::tick(record, length), ..Came::default() })?;
-        self.finish(&before, Operation::new(Kind::Tick), &[])
-    }
-
-    pub fn perform(&mut self, input: &[u8], offset: u64, reply: usize, room: usize) -> Result<Came, Difference> {
-        let before = self.words;
+    /// One call for both. The box is asked, and the peer's answer is what must come.
+    pub fn call(&mut self, call: &Call, memory: Memory) -> Result<Came, Difference> {
+        let before = self.model.words;
         self.turn += 1;
-        self.room = room;
+        self.calls += (call.kind != Kind::Ask) as u64;
         let reply_from = (self.fill + 7919 * self.turn) % RING_ROOM;
-        let reply_before = self.table[reply_from..reply_from + reply].to_vec();
-        self.reply.clear();
-        self.reply.extend_from_slice(&reply_before);
-        self.ask_peer(|record, [ring, reply, line]| told(peer::perform(record, ring, reply, input, offset, line)))?;
-        let operation = Operation {
-            input,
-            offset,
-            reply: (reply, reply_from),
-            lines: (room, 0),
-            look_behind: self.look_behind(),
-            ..Operation::new(Kind::Perform)
-        };
-        self.check_refusal(&before, input)?;
-        self.finish(&before, operation, &reply_before)
+        let reply_before = &self.table[reply_from..reply_from + call.reply];
+        self.model.reply.clear();
+        self.model.reply.extend_from_slice(reply_before);
+        let came = self.model.call(call).inspect_err(|_| {
+            self.lines_before.fill(BLANK);
+            self.is_as_filled = false;
+        })?;
+        let reply_changed = self.model.reply != reply_before;
+        let (look_at_ring, look_behind) = self.looks(call, memory);
+        let (asked, values) = self.values(call.kind);
+        let bytes = if call.kind == Kind::Ask { &asked[..] } else { self.newly_held(&call.input) };
+        let places = [0, 0, reply_from];
+        put_operation(&mut self.batch.operations, call, memory, (look_at_ring, look_behind), places, bytes);
+        self.check_lines(call.room, look_behind)?;
+        let reply = if reply_changed { &self.model.reply[..] } else { &[] };
+        let changed = if look_at_ring { changes(&self.model.ring, &self.ring_before) } else { 0..0 };
+        let ring = &self.model.ring[changed.clone()];
+        let told = (changed.start, ring);
+        put_answer(&mut self.batch.expected, &came, &self.model.words, &values, self.model.text(), reply, told);
+        self.batch.ends.push(self.batch.expected.len());
+        self.ring_before[changed.clone()].copy_from_slice(ring);
+        self.is_as_filled &= changed.is_empty();
+        self.check_refusal(call, &before, !changed.is_empty(), reply_changed)?;
+        Ok(came)
     }
 
-    pub fn serve(&mut self, input: &[u8], offset: u64, last: bool, room: usize) -> Result<Came, Difference> {
-        self.serve_window(input, None, offset, last, room)
+    /// Whether the ring is looked at, and how many bytes behind the text. In memory of its own and now and then it is
+    /// everything; else long lines up to some way, and a long ring where something is answered, the stream ends or the
+    /// first call gets 604.
+    fn looks(&self, call: &Call, memory: Memory) -> (bool, usize) {
+        let all = self.turn % 16 == 0 || memory != Memory::Usual;
+        let Came { number, read, .. } = self.model.came;
+        let waits = call.kind == Kind::Serve && read == 0 && !call.last && self.model.ring.len() >= 8192;
+        let ring = !waits || all || (number == 604 && self.turn == 1);
+        (ring && !matches!(call.kind, Kind::Ask | Kind::Layout), if all { usize::MAX } else { WATCHED })
     }
 
-    /// The stream that windows are served from.
-    pub fn hold(&mut self, stream: &[u8]) {
-        Operation { input: stream, ..Operation::new(Kind::Hold) }.put(&mut self.batch.operations);
+    /// The stream of an input, if the box does not hold it yet.
+    fn newly_held<'a>(&mut self, input: &'a Input) -> &'a [u8] {
+        if self.held.as_ref().is_some_and(|held| Rc::ptr_eq(held, &input.stream)) {
+            return &[];
+        }
+        if !input.stream.is_empty() {
+            self.held = Some(Rc::clone(&input.stream));
+        }
+        &input.stream
     }
 
-    /// Serves an input; where it has a place, it is that part of the stream which is held.
-    pub fn serve_window(
-        &mut self,
-        input: &[u8],
-        held: Option<usize>,
-        offset: u64,
-        last: bool,
-        room: usize,
-    ) -> Result<Came, Difference> {
-        let before = self.words;
-        self.turn += 1;
-        self.room = room;
-        self.reply.clear();
-        self.ask_peer(|record, [ring, _, lines]| told(peer::serve(record, ring, input, offset, last, lines)))?;
-        // A long ring is looked at where something is answered, the stream ends or the call is the first, and now and then.
-        let look_at_ring = self.came.read > 0
-            || last
-            || self.ring.len() < 8192
-            || self.turn % 16 == 0
-            || (self.came.number == 604 && self.turn == 1);
-        let operation = Operation {
-            input,
-            held,
-            offset,
-            last,
-            lines: (room, 0),
-            look_at_ring,
-            look_behind: self.look_behind(),
-            ..Operation::new(Kind::Serve)
-        };
-        self.finish(&before, operation, &[])
-    }
-
-    /// Long lines are looked at up to some way behind the text, and now and then to their end.
-    fn look_behind(&self) -> u32 {
-        if self.turn % 16 == 0 {
-            u32::MAX
-        } else {
-            WATCHED
+    /// The questions, and the values of the right answer: to questions, or of the header.
+    fn values(&mut self, kind: Kind) -> (Vec<u8>, Vec<u64>) {
+        let Model { words, record, ring, .. } = &self.model;
+        match kind {
+            Kind::Ask => {
+                let sound = record.is_some_and(|record| record.is_sound(ring.len()));
+                let right = |question: &u64| *words.get(*question as usize).filter(|_| sound).unwrap_or(&NONE);
+                let questions = questions();
+                self.questions += questions.len() as u64;
+                (
+                    questions.iter().flat_map(|question| question.to_le_bytes()).collect(),
+                    questions.iter().map(right).collect(),
+                )
+            }
+            Kind::Layout => (Vec::new(), header().into_iter().map(|(_, value)| value).collect()),
+            _ => (Vec::new(), Vec::new()),
         }
     }
 
-    /// The peer's answer. Words that are no record get 604 and change nothing.
-    fn ask_peer(&mut self, call: impl FnOnce(&mut Record, [&mut [u8]; 3]) -> Came) -> Result<(), Difference> {
-        self.calls += 1;
-        self.came = Came::UNSOUND;
-        if let Some(record) = &mut self.record {
-            let lent = [&mut self.ring[..], &mut self.reply[..], &mut self.lines[..self.room]];
-            let came = catch_unwind(AssertUnwindSafe(|| call(record, lent)));
-            self.words = record.to_words();
-            self.came = came.map_err(|_| {
-                self.lines.fill(BLANK);
-                self.lines_before.fill(BLANK);
-                self.is_as_filled = false;
-                panics()
-            })?;
+    /// The peer writes a text that fits, and nothing behind it.
+    fn check_lines(&mut self, room: usize, look_behind: usize) -> Result<(), Difference> {
+        let (lines, written) = (&self.model.lines, self.model.came.written);
+        if written > room {
+            return fails("written beyond the lines", written);
         }
+        let behind = written..room.min(written.saturating_add(look_behind));
+        if lines[behind.clone()] != self.lines_before[behind] {
+            self.lines_before.copy_from_slice(lines);
+            return fails("bytes behind the text change", "in the lines");
+        }
+        self.lines_before[..written].copy_from_slice(&lines[..written]);
         Ok(())
     }
 
-    /// The operation is asked of the box, and the peer's answer is what must come; it is itself held to what holds of
-    /// any call.
-    fn finish(&mut self, before: &Words, operation: Operation, reply_before: &[u8]) -> Result<Came, Difference> {
-        operation.put(&mut self.batch.operations);
-        let came = self.came;
-        let fails = |what: &str| Err(Difference::new(what, NOT_ASKED, "so does the peer"));
-        if came.written > self.room {
-            return fails("written beyond the lines");
+    /// "What it leaves": a call that the peer refuses leaves all as it was; by Load's 713 the feeder is Unloaded, the
+    /// rest kept.
+    fn check_refusal(&self, call: &Call, before: &Words, ring: bool, reply: bool) -> Result<(), Difference> {
+        let Model { came, words, .. } = &self.model;
+        if came.number == 604 && (words != before || *came != Came::UNSOUND || ring) {
+            return fails("604 leaves something changed", words_text(words));
         }
-        let looked = self.room.min(came.written.saturating_add(operation.look_behind as usize));
-        let behind = came.written..looked;
-        if self.lines[behind.clone()] != self.lines_before[behind] {
-            self.lines_before.copy_from_slice(&self.lines);
-            return fails("bytes behind the text change");
+        if came.number != 0 && reply {
+            return fails("a refused call writes in the reply", hex(&self.model.reply));
         }
-        self.lines_before[..came.written].copy_from_slice(&self.lines[..came.written]);
-        let reply = if self.reply == reply_before { &[][..] } else { &self.reply[..] };
-        let text = &self.lines[..came.written];
-        let from = put_answer(&mut self.batch.expected, operation.kind, &came, &self.words, text, reply);
-        let ring_changed =
-            operation.look_at_ring && put_runs(&mut self.batch.expected, from, &self.ring, &mut self.ring_before);
-        self.is_as_filled &= !ring_changed;
-        if came.number == 604 && (self.words != *before || came != Came::UNSOUND || ring_changed) {
-            return fails("604 leaves something changed");
-        }
-        if came.number != 0 && self.reply != reply_before {
-            return fails("a refused call writes in the reply");
-        }
-        self.expect().map(|()| came)
-    }
-
-    /// "What it leaves": a refused call leaves all as it was; by Load's 713 the feeder is Unloaded, the rest kept.
-    fn check_refusal(&self, before: &Words, input: &[u8]) -> Result<(), Difference> {
         let mut left = *before;
-        if self.came.number == 713 && input.get(2) == Some(&kind::LOAD) {
-            left[FEEDER] = UNLOADED;
+        if let (713, Some(&kind::LOAD), Some(record)) = (came.number, call.input.get(2), Record::from_words(before)) {
+            left = Record { feeder: FeederState::Unloaded, ..record }.to_words();
         }
-        if self.came.number != 0 && self.words != left {
+        if came.number != 0 && *words != left {
             let what = format!("a refused call changes the record; by the paper it leaves {}", words_text(&left));
-            return Err(Difference::new(what, NOT_ASKED, words_text(&self.words)));
+            return fails(&what, words_text(words));
         }
         Ok(())
     }
-
-    /// Every question, and some that are none.
-    pub fn ask(&mut self) -> Result<(), Difference> {
-        let words = self.words;
-        self.put_questions(Kind::Ask, &words, self.ring.len())
-    }
-
-    fn put_questions(&mut self, kind: Kind, words: &Words, length: usize) -> Result<(), Difference> {
-        let sound = is_sound(words, length);
-        let right = QUESTIONS.map(|question| if sound && question < 18 { words[question as usize] } else { NONE });
-        let mut questions = [0; 8 * QUESTIONS.len()];
-        for (bytes, question) in questions.chunks_mut(8).zip(QUESTIONS) {
-            bytes.copy_from_slice(&question.to_le_bytes());
-        }
-        let words_too = (kind == Kind::EdgeAsk).then_some(words);
-        Operation { input: &questions, words: words_too, ring: (length, 0), ..Operation::new(kind) }
-            .put(&mut self.batch.operations);
-        put_values(&mut self.batch.expected, kind, words, &right);
-        self.questions += QUESTIONS.len() as u64;
-        self.expect()
-    }
-
-    // ---- calls with memory of their own
-
-    /// The header's numbers as the box program is compiled with them.
-    pub fn layout(&mut self) -> Result<(), Difference> {
-        Operation::new(Kind::Layout).put(&mut self.batch.operations);
-        let right: Vec<u64> = header().into_iter().map(|(_, value)| value).collect();
-        put_values(&mut self.batch.expected, Kind::Layout, &[0; 18], &right);
-        self.expect()
-    }
-
-    /// A fresh box over any words.
-    pub fn fresh(&mut self, words: &Words) -> Result<(), Difference> {
-        if Record::fresh().to_words() != FRESH {
-            return Err(Difference::new("a fresh box", NOT_ASKED, words_text(&Record::fresh().to_words())));
-        }
-        Operation { words: Some(words), ..Operation::new(Kind::Fresh) }.put(&mut self.batch.operations);
-        put_answer(&mut self.batch.expected, Kind::Fresh, &Came::default(), &FRESH, &[], &[]);
-        self.expect()
-    }
-
-    /// One call in memory of this kind.
-    pub fn lend(&mut self, lending: &Lending, memory: Memory) -> Result<(), Difference> {
-        let Lending { words, ring, reply, lines, input, offset, serve } = lending;
-        let part = |(length, from): (usize, usize)| self.table[from..from + length].to_vec();
-        let (ring_now, mut ring_before) = (&mut part(*ring)[..], part(*ring));
-        let (reply_now, reply_before) = (&mut part(*reply)[..], part(*reply));
-        let (lines_now, lines_before) = (&mut part(*lines)[..], part(*lines));
-        let mut record = Record::from_words(words);
-        let call = || match (&mut record, serve) {
-            (None, _) => Came::UNSOUND,
-            (Some(record), Some(last)) => told(peer::serve(record, ring_now, input, *offset, *last, lines_now)),
-            (Some(record), None) => told(peer::perform(record, ring_now, reply_now, input, *offset, lines_now)),
-        };
-        let came = catch_unwind(AssertUnwindSafe(call)).map_err(|_| panics())?;
-        if lines_now[came.written..] != lines_before[came.written..] {
-            return Err(Difference::new("bytes behind the text change", NOT_ASKED, "in the lines"));
-        }
-        let operation = Operation {
-            call: if serve.is_some() { Kind::Serve } else { Kind::Perform },
-            offset: *offset,
-            last: *serve == Some(true),
-            memory,
-            words: Some(words),
-            input,
-            ring: *ring,
-            reply: *reply,
-            lines: *lines,
-            ..Operation::new(Kind::Lend)
-        };
-        operation.put(&mut self.batch.operations);
-        let words = record.map_or(*words, |record| record.to_words());
-        let reply = if reply_now == reply_before { &[][..] } else { reply_now };
-        let expected = &mut self.batch.expected;
-        let from = put_answer(expected, Kind::Lend, &came, &words, &lines_now[..came.written], reply);
-        put_runs(expected, from, ring_now, &mut ring_before);
-        self.calls += 1;
-        self.expect()
-    }
-
-    /// Questions about a record that may not be written, and a second for it, at the edge of a page.
-    pub fn at_edge(&mut self, words: &Words, length: usize) -> Result<(), Difference> {
-        self.put_questions(Kind::EdgeAsk, words, length)?;
-        Operation { words: Some(words), ring: (length, 0), ..Operation::new(Kind::EdgeTick) }
-            .put(&mut self.batch.operations);
-        let (mut after, mut came) = (*words, Came::UNSOUND);
-        if let Some(mut record) = Record::from_words(words) {
-            came.number = peer::tick(&mut record, length);
-            after = record.to_words();
-        }
-        put_answer(&mut self.batch.expected, Kind::EdgeTick, &came, &after, &[], &[]);
-        self.calls += 1;
-        self.expect()
-    }
 }
 
-fn panics() -> Difference {
-    Difference::new("the peer panics", NOT_ASKED, "panic")
+/// From the first byte that changed to the last.
+fn changes(now: &[u8], before: &[u8]) -> Range<usize> {
+    if now == before {
+        return 0..0;
+    }
+    const BLOCK: usize = 1024;
+    let is_alike = |(now, before): &(&[u8], &[u8])| now == before;
+    let from = BLOCK * now.chunks(BLOCK).zip(before.chunks(BLOCK)).take_while(is_alike).count();
+    let to = now.len() - BLOCK * now.rchunks(BLOCK).zip(before.rchunks(BLOCK)).take_while(is_alike).count();
+    let differs = |place: &usize| now[*place] != before[*place];
+    (from..to).find(differs).unwrap_or(from)..(from..to).rfind(differs).map_or(to, |last| last + 1)
 }
 
-fn told((number, progress): (u16, peer::Progress)) -> Came {
-    Came { number, read: progress.read, written: progress.written, ended: progress.ended as usize }
+/// The peer fails by itself.
+fn fails<T>(what: &str, peer: impl ToString) -> Result<T, Difference> {
+    Err(Difference::new(what, NOT_ASKED, peer))
 }
 
 /// The box program is gone, and with it the trial.
 fn tell_end(batch: &Batch, ended: Ended) -> ! {
     let Some(answers) = ended.touched else {
-        println!("\nDIFFERENCE: {}, in {}", ended.why, batch.place(None));
+        println!("\nDIFFERENCE: {}, in {} or soon behind it", ended.why, batch.place(0));
         std::process::exit(1);
     };
     // An answer before the touch may differ.
     if !batch.expected.starts_with(&answers) {
-        if let Some((at, Difference { what, proved, peer })) = batch.compare(&answers) {
-            println!("\nDIFFERENCE in {}", batch.place(Some(at)));
-            println!("  what differs: {what}\n    proved: {proved}\n    peer:   {peer}");
+        if let Some((at, difference)) = batch.compare(&answers) {
+            println!("\nDIFFERENCE in {}\n{difference}", batch.place(at));
         }
     }
     let at = batch.ends.partition_point(|&end| end <= answers.len());
     println!(
         "\nDIFFERENCE: memory is touched that is not lent, or written where it is lent to be read, in {}",
-        batch.place(Some(at))
+        batch.place(at)
     );
     std::process::exit(1);
 }

@@ -13,12 +13,12 @@ impl Rng {
     /// A generator for the n-th thing of a seed.
     pub fn nth(seed: u64, n: u64) -> Rng {
         let mut rng = Rng::new(seed ^ n.wrapping_mul(0xD6E8_FEB8_6659_FD93));
-        Rng::new(rng.next())
+        Rng::new(rng.draw())
     }
 
     /// SplitMix64.
     #[inline]
-    pub fn next(&mut self) -> u64 {
+    pub fn draw(&mut self) -> u64 {
         self.state = self.state.wrapping_add(0x9E37_79B9_7F4A_7C15);
         let mut z = self.state;
         z = (z ^ (z >> 30)).wrapping_mul(0xBF58_476D_1CE4_E5B9);
@@ -26,10 +26,14 @@ impl Rng {
         z ^ (z >> 31)
     }
 
+    pub fn byte(&mut self) -> u8 {
+        self.draw() as u8
+    }
+
     /// A number below n; 0 where n is 0.
     #[inline]
     pub fn below(&mut self, n: usize) -> usize {
-        ((self.next() as u128 * n as u128) >> 64) as usize
+        ((self.draw() as u128 * n as u128) >> 64) as usize
     }
 
     /// A number from least to most.
@@ -49,16 +53,11 @@ impl Rng {
         list[self.below(list.len())]
     }
 
-    pub fn fill(&mut self, bytes: &mut [u8]) {
-        for part in bytes.chunks_mut(8) {
-            let random = self.next().to_le_bytes();
-            part.copy_from_slice(&random[..part.len()]);
-        }
-    }
-
     pub fn bytes(&mut self, length: usize) -> Vec<u8> {
         let mut bytes = vec![0; length];
-        self.fill(&mut bytes);
+        for part in bytes.chunks_mut(8) {
+            part.copy_from_slice(&self.draw().to_le_bytes()[..part.len()]);
+        }
         bytes
     }
 }

@@ -2,134 +2,73 @@
 //!
 //! The peer's answers are put in the same form. So the two sides agree where their bytes do.
 
-use crate::streams::KINDS;
+use crate::case::Call;
 use crate::tally::NUMBERS;
-use crate::words::{Words, NAMES};
-use std::fmt::Write;
+use peer::{DESK_REPLY, KINDS, LINE_MOST, NAMES, RING_MOST, WORDS};
+use std::fmt::{Display, Formatter, Write};
 
-/// The mark of a batch and of its answer.
-pub const MARK: u32 = 0x5441_4F42;
-
-/// The head of a batch: the mark, a status, how many bytes follow.
-pub const HEAD: usize = 16;
-
-/// The status of an answer that ends where memory is touched that is not lent.
-pub const TOUCHED: u32 = 1;
+/// The box record in words, as include/bench_box.h numbers them.
+pub type Words = [u64; WORDS];
 
 #[derive(Clone, Copy, PartialEq, Eq, Debug)]
 #[repr(u32)]
 pub enum Kind {
-    Layout = 1,
-    Fill,
-    Hold,
+    Fill = 1,
     Reset,
+    Layout,
+    Fresh,
     Tick,
+    Ask,
     Perform,
     Serve,
-    Ask,
-    Fresh,
-    Lend,
-    EdgeAsk,
-    EdgeTick,
 }
 
-/// Where a lent call finds its memory.
+/// Where a call finds what it is lent.
 #[derive(Clone, Copy, PartialEq, Eq, Debug)]
 pub enum Memory {
+    /// Each thing between guards.
+    Usual,
     /// In one arena: record, progress, ring, reply, input and lines at these places. A place of 0 with a length of 0
     /// is a null pointer.
-    Arena([u32; 6]),
+    Arena([u16; 6]),
     BehindPage,
     BeforePage,
 }
 
-/// What the box is to do.
-pub struct Operation<'a> {
-    pub kind: Kind,
-    /// Of a lent call: perform or serve.
-    pub call: Kind,
-    pub offset: u64,
-    pub last: bool,
-    pub look_at_ring: bool,
-    pub look_behind: u32,
-    pub memory: Memory,
-    pub words: Option<&'a Words>,
-    pub input: &'a [u8],
-    /// The input is a window of the held stream, from here on.
-    pub held: Option<usize>,
-    /// Lengths, and where in the table the first bytes stand.
-    pub ring: (usize, usize),
-    pub reply: (usize, usize),
-    pub lines: (usize, usize),
+/// Puts what the box is to do: a call with its reply's first bytes from this place of the table, and how much it looks
+/// at; or a ring of this length from a place of the table. Bytes follow: a table, words, questions, or the stream that
+/// inputs are windows of from now on.
+pub fn put_operation(
+    to: &mut Vec<u8>,
+    call: &Call,
+    memory: Memory,
+    (look_at_ring, look_behind): (bool, usize),
+    [ring_from, ring_length, reply_from]: [usize; 3],
+    bytes: &[u8],
+) {
+    let (memory, places) = match memory {
+        Memory::Usual => (0, [0; 6]),
+        Memory::Arena(places) => (1, places),
+        Memory::BehindPage => (2, [0; 6]),
+        Memory::BeforePage => (3, [0; 6]),
+    };
+    put_numbers(to, &[call.kind as u32, memory, call.offset as u32, (call.offset >> 32) as u32]);
+    put_numbers(to, &[call.last.into(), look_at_ring.into(), look_behind.min(u32::MAX as usize) as u32]);
+    let (input, reply) = ([call.input.from, call.input.length], [reply_from, call.reply]);
+    let lengths = [&[bytes.len()], &input[..], &[ring_from, ring_length], &reply, &[call.room]].concat();
+    lengths.iter().for_each(|&length| put_numbers(to, &[length as u32]));
+    places.iter().for_each(|place| to.extend_from_slice(&place.to_le_bytes()));
+    to.extend_from_slice(bytes);
 }
 
-impl Operation<'_> {
-    pub fn new<'a>(kind: Kind) -> Operation<'a> {
-        Operation {
-            kind,
-            call: kind,
-            offset: 0,
-            last: false,
-            look_at_ring: true,
-            look_behind: u32::MAX,
-            memory: Memory::BehindPage,
-            words: None,
-            input: &[],
-            held: None,
-            ring: (0, 0),
-            reply: (0, 0),
-            lines: (0, 0),
-        }
-    }
-
-    pub fn put(&self, to: &mut Vec<u8>) {
-        let mut head = [0; 64];
-        let mut place = 0;
-        let mut say = |bytes: &[u8]| {
-            head[place..place + bytes.len()].copy_from_slice(bytes);
-            place += bytes.len();
-        };
-        let memory = match self.memory {
-            Memory::Arena(_) => 0,
-            Memory::BehindPage => 1,
-            Memory::BeforePage => 2,
-        };
-        say(&(self.kind as u32).to_le_bytes());
-        say(&(self.call as u32).to_le_bytes());
-        say(&self.offset.to_le_bytes());
-        let rest = [
-            self.last as u32,
-            self.look_at_ring as u32,
-            self.look_behind,
-            memory,
-            self.input.len() as u32,
-            self.held.map_or(0, |place| place as u32 + 1),
-            self.ring.0 as u32,
-            self.ring.1 as u32,
-            self.reply.0 as u32,
-            self.reply.1 as u32,
-            self.lines.0 as u32,
-            self.lines.1 as u32,
-        ];
-        for number in rest {
-            say(&number.to_le_bytes());
-        }
-        to.extend_from_slice(&head);
-        for word in self.words.into_iter().flatten() {
-            to.extend_from_slice(&word.to_le_bytes());
-        }
-        if self.kind == Kind::Lend {
-            let places = if let Memory::Arena(places) = self.memory { places } else { [0; 6] };
-            to.extend(places.iter().flat_map(|place| place.to_le_bytes()));
-        }
-        if self.held.is_none() {
-            to.extend_from_slice(self.input);
-        }
+fn put_numbers(to: &mut Vec<u8>, numbers: &[u32]) {
+    for number in numbers {
+        to.extend_from_slice(&number.to_le_bytes());
     }
 }
 
 /// What a call comes to.
-#[derive(Clone, Copy, PartialEq, Eq, Debug, Default)]
+#[derive(Clone, Copy, PartialEq, Eq, Default)]
 pub struct Came {
     pub number: u16,
     pub read: usize,
@@ -141,89 +80,53 @@ impl Came {
     pub const UNSOUND: Came = Came { number: 604, read: 0, written: 0, ended: 0 };
 }
 
-impl std::fmt::Display for Came {
-    fn fmt(&self, to: &mut std::fmt::Formatter) -> std::fmt::Result {
+impl Display for Came {
+    fn fmt(&self, to: &mut Formatter) -> std::fmt::Result {
         let Came { number, read, written, ended } = self;
         write!(to, "number {number}, read {read}, written {written}, ended {ended}")
     }
 }
 
 /// All that a call leaves. What is not told has not changed.
-#[derive(Clone, Default, PartialEq, Debug)]
-pub struct Answer {
-    kind: u32,
+struct Answer {
+    came: Came,
+    words: Words,
     broken: u32,
     place: u32,
-    pub came: Came,
-    pub words: Words,
-    pub text: Vec<u8>,
-    /// Empty where it is as it was.
-    pub reply: Vec<u8>,
-    /// Ring bytes that changed, with their places.
-    ring: Vec<(usize, Vec<u8>)>,
     values: Vec<u64>,
+    text: Vec<u8>,
+    reply: Vec<u8>,
+    ring_from: u32,
+    ring: Vec<u8>,
 }
 
-/// Of a ring, blocks of this length are looked at one by one where it changed.
-const BLOCK: usize = 256;
-
-const ANSWER: usize = 200;
-const RUNS: usize = 192;
-
-/// Puts the peer's answer. Gives where it begins, for the runs of the ring.
-pub fn put_answer(to: &mut Vec<u8>, kind: Kind, came: &Came, words: &Words, text: &[u8], reply: &[u8]) -> usize {
-    let from = to.len();
-    let start = [kind as u32, 0, 0, came.number as u32];
-    to.extend(start.iter().flat_map(|number| number.to_le_bytes()));
+/// Puts the peer's answer. The ring is told from the first byte that changed to the last.
+pub fn put_answer(
+    to: &mut Vec<u8>,
+    came: &Came,
+    words: &Words,
+    values: &[u64],
+    text: &[u8],
+    reply: &[u8],
+    (ring_from, ring): (usize, &[u8]),
+) {
     for number in [came.read, came.written, came.ended] {
         to.extend_from_slice(&(number as u64).to_le_bytes());
     }
-    for word in words {
-        to.extend_from_slice(&word.to_le_bytes());
-    }
-    to.extend([text.len() as u32, reply.len() as u32, 0, 0].iter().flat_map(|number| number.to_le_bytes()));
-    to.extend_from_slice(text);
-    to.extend_from_slice(reply);
-    from
-}
-
-/// Puts what changed in the ring behind the answer that begins there. What was before is made alike. Gives whether
-/// anything changed.
-pub fn put_runs(to: &mut Vec<u8>, from: usize, now: &[u8], before: &mut [u8]) -> bool {
-    if now == before {
-        return false;
-    }
-    let mut runs = 0u32;
-    for (block, (now, before)) in now.chunks(BLOCK).zip(before.chunks_mut(BLOCK)).enumerate() {
-        let differs = |place: &usize| now[*place] != before[*place];
-        let (Some(first), Some(last)) = ((0..now.len()).find(differs), (0..now.len()).rfind(differs)) else {
-            continue;
-        };
-        for number in [block * BLOCK + first, last + 1 - first] {
-            to.extend_from_slice(&(number as u32).to_le_bytes());
-        }
-        to.extend_from_slice(&now[first..=last]);
-        before[first..=last].copy_from_slice(&now[first..=last]);
-        runs += 1;
-    }
-    to[from + RUNS..from + RUNS + 4].copy_from_slice(&runs.to_le_bytes());
-    true
-}
-
-/// Puts the peer's answer to questions.
-pub fn put_values(to: &mut Vec<u8>, kind: Kind, words: &Words, values: &[u64]) {
-    put_answer(to, kind, &Came::default(), words, &[], &[]);
-    let place = to.len() - 4;
-    to[place..].copy_from_slice(&(values.len() as u32).to_le_bytes());
-    to.extend(values.iter().flat_map(|value| value.to_le_bytes()));
+    words.iter().for_each(|word| to.extend_from_slice(&word.to_le_bytes()));
+    let lengths = [values.len(), text.len(), reply.len(), ring_from, ring.len()].map(|length| length as u32);
+    put_numbers(to, &[came.number as u32, 0, 0]);
+    put_numbers(to, &lengths);
+    values.iter().for_each(|value| to.extend_from_slice(&value.to_le_bytes()));
+    [text, reply, ring].iter().for_each(|bytes| to.extend_from_slice(bytes));
 }
 
 /// Bytes that are read from the front.
 struct Front<'a>(&'a [u8]);
 
 impl Front<'_> {
-    fn take(&mut self, length: usize) -> Option<&[u8]> {
-        let (taken, rest) = self.0.split_at_checked(length)?;
+    fn take(&mut self, length: u32) -> Option<&[u8]> {
+        let (taken, rest) = self.0.split_at_checked(length as usize)?;
         self.0 = rest;
         Some(taken)
     }
@@ -239,36 +142,52 @@ impl Front<'_> {
 
 impl Answer {
     /// The answer at the front, if there is one.
-    pub fn read(bytes: &[u8]) -> Option<Answer> {
-        let mut head = Front(bytes.get(..ANSWER)?);
-        let mut body = Front(&bytes[ANSWER..]);
-        let mut answer =
-            Answer { kind: head.short()?, broken: head.short()?, place: head.short()?, ..Answer::default() };
-        answer.came = Came {
-            number: head.short()? as u16,
-            read: head.long()? as usize,
-            written: head.long()? as usize,
-            ended: head.long()? as usize,
-        };
-        for word in &mut answer.words {
-            *word = head.long()?;
+    fn read(bytes: &[u8]) -> Option<Answer> {
+        let mut front = Front(bytes);
+        let [read, written, ended] = [front.long()?, front.long()?, front.long()?].map(|number| number as usize);
+        let mut words = [0; WORDS];
+        for word in &mut words {
+            *word = front.long()?;
         }
-        answer.text = body.take(head.short()? as usize)?.to_vec();
-        answer.reply = body.take(head.short()? as usize)?.to_vec();
-        for _ in 0..head.short()? {
-            let (place, length) = (body.short()?, body.short()?);
-            answer.ring.push((place as usize, body.take(length as usize)?.to_vec()));
-        }
-        for _ in 0..head.short()? {
-            answer.values.push(body.long()?);
-        }
-        Some(answer)
+        let [number, broken, place] = [front.short()?, front.short()?, front.short()?];
+        let [values, text, reply] = [front.short()?, front.short()?, front.short()?];
+        let [ring_from, ring] = [front.short()?, front.short()?];
+        Some(Answer {
+            came: Came { number: number as u16, read, written, ended },
+            words,
+            broken,
+            place,
+            values: (0..values).map(|_| front.long()).collect::<Option<_>>()?,
+            text: front.take(text)?.to_vec(),
+            reply: front.take(reply)?.to_vec(),
+            ring_from,
+            ring: front.take(ring)?.to_vec(),
+        })
     }
 
-    /// The ring byte at a place, if it changed.
-    fn ring_byte(&self, place: usize) -> Option<u8> {
-        let run = self.ring.iter().find(|(from, bytes)| (*from..from + bytes.len()).contains(&place));
-        run.map(|(from, bytes)| bytes[place - from])
+    /// All that can differ, by name.
+    fn facts(&self) -> Vec<(String, String)> {
+        let mut facts = vec![
+            ("number".to_string(), self.came.number.to_string()),
+            ("how many values there are".to_string(), self.values.len().to_string()),
+            ("progress".to_string(), self.came.to_string()),
+            ("text".to_string(), show_text(&self.text)),
+            ("reply".to_string(), hex(&self.reply)),
+            ("ring".to_string(), format!("from {} {}", self.ring_from, hex(&self.ring))),
+        ];
+        let words = self.words.iter().zip(NAMES).enumerate();
+        facts.extend(words.map(|(place, (word, name))| (format!("record word {place}, {name}"), word.to_string())));
+        let asked = questions().into_iter().map(|question| format!("ask {question}"));
+        let names: Vec<String> = match self.values.len() == asked.len() {
+            true => asked.collect(),
+            false => header().into_iter().map(|(name, _)| name).collect(),
+        };
+        facts.extend(names.into_iter().zip(self.values.iter().map(u64::to_string)));
+        for (bit, what) in BROKEN.iter().enumerate() {
+            let kept = if self.broken >> bit & 1 == 0 { "kept" } else { "changed" };
+            facts.push((what.to_string(), format!("{kept} (arena {})", self.place)));
+        }
+        facts
     }
 }
 
@@ -281,40 +200,42 @@ pub struct Difference {
 }
 
 impl Difference {
-    pub fn new(what: impl Into<String>, proved: impl Into<String>, peer: impl Into<String>) -> Difference {
-        Difference { what: what.into(), proved: proved.into(), peer: peer.into() }
+    pub fn new(what: impl Into<String>, proved: impl ToString, peer: impl ToString) -> Difference {
+        Difference { what: what.into(), proved: proved.to_string(), peer: peer.to_string() }
+    }
+}
+
+impl Display for Difference {
+    fn fmt(&self, to: &mut Formatter) -> std::fmt::Result {
+        let Difference { what, proved, peer } = self;
+        write!(to, "  what differs: {what}\n    proved: {proved}\n    peer:   {peer}")
     }
 }
 
 /// Every question, and some that are none.
-pub const QUESTIONS: [u64; 24] = {
-    let mut questions = [0; 24];
-    let mut place = 0;
-    while place < 21 {
-        questions[place] = place as u64;
-        place += 1;
-    }
-    [questions[21], questions[22], questions[23]] = [255, 1 << 32, u64::MAX];
-    questions
-};
+pub fn questions() -> Vec<u64> {
+    let beyond = WORDS as u64 + 3;
+    (0..beyond).chain([255, 1 << 32, u64::MAX]).collect()
+}
 
 /// The answer to a question that is none.
 pub const NONE: u64 = u64::MAX;
 
 /// What the header says and the compiler makes of it, by name, as box.c lists it.
 pub fn header() -> Vec<(String, u64)> {
+    let size = 8 * WORDS as u64;
     let first = [
-        ("BENCH_BOX_WORDS", 18),
-        ("BENCH_BOX_SIZE", 144),
+        ("BENCH_BOX_WORDS", WORDS as u64),
+        ("BENCH_BOX_SIZE", size),
         ("BENCH_BOX_ALIGN", 8),
-        ("BENCH_BOX_RING_MOST", 65_536),
+        ("BENCH_BOX_RING_MOST", RING_MOST as u64),
         ("BENCH_BOX_REPLY_HEAD", 4),
-        ("BENCH_BOX_REPLY_MOST", 259),
-        ("BENCH_BOX_LINE_MOST", 640),
+        ("BENCH_BOX_REPLY_MOST", DESK_REPLY as u64),
+        ("BENCH_BOX_LINE_MOST", LINE_MOST as u64),
         ("BENCH_BOX_RECORD_HEAD", 4),
         ("BENCH_BOX_RECORD_MOST", 259),
         ("BENCH_BOX_NONE", NONE),
-        ("the size of a box", 144),
+        ("the size of a box", size),
         ("the alignment of a box", 8),
         ("the size of a progress", 24),
         ("the place of read", 0),
@@ -324,7 +245,7 @@ pub fn header() -> Vec<(String, u64)> {
     let mut header: Vec<(String, u64)> = first.map(|(name, value)| (name.to_string(), value)).to_vec();
     header.extend(NUMBERS.map(|number| (format!("the number {number}"), number.into())));
     header.extend(KINDS.map(|(kind, ..)| (format!("the kind {kind:02X}"), kind.into())));
-    header.extend((0..18).map(|place| (format!("the question about {}", NAMES[place]), place as u64)));
+    header.extend((0..WORDS).map(|place| (format!("the question about {}", NAMES[place]), place as u64)));
     for (name, count) in [("scan state", 5), ("feeder state", 4), ("FailureCode", 3)] {
         header.extend((0..count).map(|value| (format!("the {name} {value}"), value)));
     }
@@ -332,75 +253,37 @@ pub fn header() -> Vec<(String, u64)> {
 }
 
 /// What the box may break, by its bit.
-const BROKEN: [&str; 9] = [
+const BROKEN: [&str; 8] = [
     "guard bytes around the record change",
     "guard bytes around the progress change",
     "guard bytes around the ring change",
     "guard bytes around the reply change",
+    "the input is written to",
     "guard bytes around the lines change",
     "guard bytes in the arena change",
-    "the input is written to",
     "bytes behind the text change",
-    "ask changes the record",
 ];
-const BEHIND_TEXT: u32 = 128;
 
-/// Tells two answers that are not the same.
-pub fn differs(proved: &Answer, peer: &Answer) -> Difference {
-    let (ours, theirs) = (&proved.came, &peer.came);
-    if proved.kind != peer.kind || proved.values.len() != peer.values.len() {
-        return Difference::new("the kind of the answer", format!("{proved:?}"), format!("{peer:?}"));
-    }
-    if let Some(place) = (0..peer.values.len()).find(|&place| proved.values[place] != peer.values[place]) {
-        let what = if peer.kind == Kind::Layout as u32 {
-            format!("the header, {}", header()[place].0)
-        } else {
-            format!("ask {}", QUESTIONS[place])
-        };
-        return Difference::new(what, proved.values[place].to_string(), peer.values[place].to_string());
-    }
-    if ours.number != theirs.number {
-        return Difference::new("number", ours.number.to_string(), theirs.number.to_string());
-    }
-    if ours.number == 604 && (proved.words != peer.words || *ours != Came::UNSOUND) {
-        let told = |answer: &Answer| format!("{}; {}", answer.came, words_text(&answer.words));
-        return Difference::new("604 leaves something changed", told(proved), told(peer));
-    }
-    if ours != theirs {
-        return Difference::new("progress", ours.to_string(), theirs.to_string());
-    }
-    if proved.text != peer.text {
-        return Difference::new("text", show_text(&proved.text), show_text(&peer.text));
-    }
-    if proved.broken & BEHIND_TEXT != 0 {
-        return Difference::new("bytes behind the text change", "in the lines", "as before");
-    }
-    if proved.reply != peer.reply {
-        let what = if ours.number != 0 { "a refused call writes in the reply" } else { "reply" };
-        let told = |reply: &[u8]| if reply.is_empty() { "as before".to_string() } else { hex(reply) };
-        return Difference::new(what, told(&proved.reply), told(&peer.reply));
-    }
-    if let Some(place) = (0..18).find(|&place| proved.words[place] != peer.words[place]) {
-        let what = format!("record word {place}, {}", NAMES[place]);
-        return Difference::new(what, proved.words[place].to_string(), peer.words[place].to_string());
-    }
-    if let Some(place) = (0..1 << 17).find(|&place| proved.ring_byte(place) != peer.ring_byte(place)) {
-        let told = |byte: Option<u8>| byte.map_or("as before".to_string(), |byte| format!("{byte:02X}"));
-        let what = if ours.number == 604 { "604 leaves the ring changed: " } else { "" };
-        let what = format!("{what}ring byte {place}");
-        return Difference::new(what, told(proved.ring_byte(place)), told(peer.ring_byte(place)));
-    }
-    let broken: Vec<&str> = (0..9).filter(|bit| proved.broken >> bit & 1 != 0).map(|bit| BROKEN[bit]).collect();
-    let place = if proved.place > 0 { format!(" at {}", proved.place) } else { String::new() };
-    Difference::new(broken.join(", ") + &place, "changed", "kept")
+/// Tells all that differs in the answers at the front.
+pub fn differs(proved: &[u8], peer: &[u8]) -> Difference {
+    let [Some(ours), Some(theirs)] = [proved, peer].map(Answer::read) else {
+        return Difference::new("how many answers there are", proved.len(), peer.len());
+    };
+    let mut facts: Vec<Both> = ours.facts().into_iter().zip(theirs.facts()).collect();
+    facts.retain(|(ours, theirs)| ours != theirs);
+    let told = |side: fn(&Both) -> &String| facts.iter().map(side).cloned().collect::<Vec<String>>().join("; ");
+    let what = told(|(ours, _)| &ours.0);
+    let number = ours.came.number;
+    let is_refused = number != 0 && number == theirs.came.number;
+    let what = if is_refused { format!("{number} leaves something changed: {what}") } else { what };
+    Difference::new(what, told(|(ours, _)| &ours.1), told(|(_, theirs)| &theirs.1))
 }
 
+/// A fact, as the proved box and the peer have it.
+type Both = ((String, String), (String, String));
+
 pub fn hex(bytes: &[u8]) -> String {
-    let mut text = String::new();
-    for byte in bytes {
-        let _ = write!(text, "{byte:02X}");
-    }
-    text
+    bytes.iter().map(|byte| format!("{byte:02X}")).collect()
 }
 
 pub fn show_text(text: &[u8]) -> String {
@@ -409,15 +292,12 @@ pub fn show_text(text: &[u8]) -> String {
         match byte {
             b'\n' => shown.push('¶'),
             0x20..0x7F => shown.push(byte as char),
-            _ => {
-                let _ = write!(shown, "\\x{byte:02X}");
-            }
+            _ => _ = write!(shown, "\\x{byte:02X}"),
         }
     }
     shown
 }
 
 pub fn words_text(words: &Words) -> String {
-    let parts: Vec<String> = words.iter().map(u64::to_string).collect();
-    parts.join(" ")
+    words.map(|word| word.to_string()).join(" ")
 }

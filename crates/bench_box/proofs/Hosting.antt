@@ -18,11 +18,11 @@ use Rattle.answers.specs.Asked.{asked, replied}
 use Rattle.text.specs.Put.{Puts}
 use Rattle.text.proofs.Putting.{put-none, moved}
 use Rattle.line.specs.Line.{lineOf, lineFor, lineRoom}
-use Rattle.records.specs.declared.Reading.{Reading}
-use Rattle.records.specs.Reading.{headOf, lengthWidth, readAt, partOf}
-use Rattle.records.proofs.Admits.{read-places}
-use Rattle.requests.specs.declared.Asking.{Asking}
-use Rattle.requests.specs.Requested.{askingOf, givenOf}
+use Rattle.desk_records.specs.declared.Reading.{Reading}
+use Rattle.desk_records.specs.Reading.{headOf, lengthWidth, readAt, partOf}
+use Rattle.desk_records.proofs.Admits.{read-places}
+use Rattle.desk_kinds.specs.declared.Asking.{Asking}
+use Rattle.desk_kinds.specs.Kinds.{askingOf, givenOf}
 use Rattle.stream.specs.Desk.{asks, wrong, heard, callWith, badLine}
 use Rattle.stream.specs.Window.{Progress, Holds}
 use Rattle.stream.proofs.Hearing.{heard-asking}

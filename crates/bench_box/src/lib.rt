@@ -1,7 +1,6 @@
 // The box for a host in C: include/bench_box.h says it in C's words. A box is the record as eighteen numbers; whatever they are,
 // each function answers.
-use records::Reading;
-use requests::Asking;
+use desk_records::Hearing;
 use rules::Record;
 use stored::Loading;
 use stream::Turn;
@@ -55,7 +54,7 @@ fn lent(words: &[u64; 18], length: usize) -> Loading
     let Loading::Loads(r) = loading else {
         return Loading::Malformed;
     };
-    if !state::is_sound(r, length) {
+    if !sound::is_sound(r, length) {
         return Loading::Malformed;
     }
     Loading::Loads(r)
@@ -117,24 +116,20 @@ fn perform(
     if !stream::has_room(0, out.len()) {
         return stayed(r, 0, 0);
     }
-    let reading = records::read::read(s, 0);
-    let Reading::Record {
+    let hearing = desk_records::read::hear(s, 0);
+    let Hearing::Record {
         kind,
+        request,
         start,
         len,
         next: place,
-    } = reading
+    } = hearing
     else {
         let end = stream::put_bad(out, 0, offset);
         return stayed(r, end, 1);
     };
-    let body = records::read::payload(s, start, len);
-    let asking = requests::request(kind, body);
-    let Asking::Asks(request) = asking else {
-        let end = stream::put_bad(out, 0, offset);
-        return stayed(r, end, 1);
-    };
-    let given = requests::given(kind, body);
+    let body = desk_records::read::payload(s, start, len);
+    let given = desk_kinds::payload::given(kind, body);
     let turn = stream::answer(r, ring, reply, kind, request, given, out, 0);
     answered(turn, place)
 }

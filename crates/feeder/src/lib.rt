@@ -54,10 +54,10 @@ fn ejecting(value: u8) -> Input
 pub fn load(r: Record, ring: &[u8], job: u32) -> After
     ensures { λ a. ⌜ gave a (now (ring .entry)) [] ≡ step (stateOf r (now (ring .entry))) (feeder (Load job)) ⌝ }
 {
-    if !state::sound_with(r, ring) {
+    if !sound::sound_with(r, ring) {
         return After::refused(Why::Unsound, r);
     }
-    if state::asked::not_ours(job, r) {
+    if words::not_ours(job, r) {
         return After::refused(Why::OtherJob, r);
     }
     by_rule(Input::Load, r)
@@ -66,13 +66,13 @@ pub fn load(r: Record, ring: &[u8], job: u32) -> After
 pub fn eject(r: Record, ring: &[u8], job: u32, value: u8) -> After
     ensures { λ a. ⌜ gave a (now (ring .entry)) [] ≡ step (stateOf r (now (ring .entry))) (feeder (Eject job value)) ⌝ }
 {
-    if !state::sound_with(r, ring) {
+    if !sound::sound_with(r, ring) {
         return After::refused(Why::Unsound, r);
     }
-    if !state::asked::is_listed(value) {
+    if !words::is_listed(value) {
         return After::refused(Why::Unlisted, r);
     }
-    if state::asked::not_ours(job, r) {
+    if words::not_ours(job, r) {
         return After::refused(Why::OtherJob, r);
     }
     by_rule(ejecting(value), r)
@@ -81,10 +81,10 @@ pub fn eject(r: Record, ring: &[u8], job: u32, value: u8) -> After
 pub fn reset(r: Record, ring: &[u8], job: u32) -> After
     ensures { λ a. ⌜ gave a (now (ring .entry)) [] ≡ step (stateOf r (now (ring .entry))) (feeder (Reset job)) ⌝ }
 {
-    if !state::sound_with(r, ring) {
+    if !sound::sound_with(r, ring) {
         return After::refused(Why::Unsound, r);
     }
-    if state::asked::not_ours(job, r) {
+    if words::not_ours(job, r) {
         return After::refused(Why::OtherJob, r);
     }
     by_rule(Input::Reset, r)

@@ -23,16 +23,16 @@ pub fn set_feeder_mode(r: Record, ring: &[u8], job: u32, mode: u8) -> After
 {
     let f = r.feeder;
     let s = f.state;
-    if !state::sound_with(r, ring) {
+    if !sound::sound_with(r, ring) {
         return After::refused(Why::Unsound, r);
     }
     if !is_simplex(mode) {
         return After::refused(Why::Unlisted, r);
     }
-    if state::asked::not_ours(job, r) {
+    if words::not_ours(job, r) {
         return After::refused(Why::OtherJob, r);
     }
-    if !state::feed::is_unloaded(s) {
+    if !words::is_unloaded(s) {
         return After::refused(Why::WrongState, r);
     }
     After::told(Answer::Done, r)
@@ -41,7 +41,7 @@ pub fn set_feeder_mode(r: Record, ring: &[u8], job: u32, mode: u8) -> After
 pub fn get_feeder_mode(r: Record, ring: &[u8]) -> After
     ensures { λ a. ⌜ gave a (now (ring .entry)) [] ≡ step (stateOf r (now (ring .entry))) (feeder GetFeederMode) ⌝ }
 {
-    if !state::sound_with(r, ring) {
+    if !sound::sound_with(r, ring) {
         return After::refused(Why::Unsound, r);
     }
     After::told(Answer::Mode(0), r)
@@ -53,7 +53,7 @@ pub fn get_state(r: Record, ring: &[u8]) -> After
     let f = r.feeder;
     let s = f.state;
     let why = f.failure;
-    if !state::sound_with(r, ring) {
+    if !sound::sound_with(r, ring) {
         return After::refused(Why::Unsound, r);
     }
     After::told(Answer::Feeding(s, f.tray, why), r)

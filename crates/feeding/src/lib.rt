@@ -30,8 +30,8 @@ fn leaves(f: Feeder) -> bool
     let state = f.state;
     let d = rule::ask(Input::Reset, f);
     let next = d.next;
-    let erred = state::feed::is_erred(state);
-    let free = state::feed::is_unloaded(next);
+    let erred = words::is_stuck(state);
+    let free = words::is_unloaded(next);
     erred & free
 }
 
@@ -91,7 +91,7 @@ pub fn jam_stops(from: u8, f: Feeder) -> bool
     ensures { λ b. ⌜ b ≡ jamStops from f ⌝ }
 {
     let s = f.state;
-    let stuck = state::feed::is_erred(s);
+    let stuck = words::is_stuck(s);
     (from == 1) & stuck
 }
 
@@ -100,7 +100,7 @@ pub fn sheet_stops(from: u8, f: Feeder) -> bool
     ensures { λ b. ⌜ b ≡ sheetStops from f ⌝ }
 {
     let s = f.state;
-    let none = state::feed::is_unloaded(s);
+    let none = words::is_unloaded(s);
     (from == 1) & (none & (f.tray == 0))
 }
 
@@ -119,7 +119,7 @@ pub fn free(f: Feeder) -> Feeder
     ensures { λ n. ⌜ n ≡ freed f ⌝ }
 {
     let s = f.state;
-    if state::feed::is_busy(s) {
+    if words::is_busy(s) {
         return stand(Feed::Unloaded, f);
     }
     f
@@ -130,7 +130,7 @@ pub fn be_late(f: Feeder) -> Feeder
     ensures { λ n. ⌜ n ≡ late f ⌝ }
 {
     let s = f.state;
-    if state::feed::is_busy(s) {
+    if words::is_busy(s) {
         return Feeder {
             state: Feed::Erred,
             failure: Failure::Timeout,

@@ -23,7 +23,7 @@ fn is_other(called: &[u8], r: Record) -> bool
     let c = r.scanner;
     let s = c.state;
     let present = name::is_present(called, r);
-    state::scan::is_idle(s) | !present
+    words::is_idle(s) | !present
 }
 
 // The smaller of what is stored and what is asked for.
@@ -54,7 +54,7 @@ fn is_last(left: Ring, r: Record) -> bool
 {
     let c = r.scanner;
     let s = c.state;
-    let f = state::scan::is_finishing(s);
+    let f = words::is_finishing(s);
     f & (left.stored == 0)
 }
 
@@ -89,7 +89,7 @@ pub fn fetch(r: Record, ring: &[u8], called: &[u8], most: u8, reply: &mut [u8]) 
     ensures { λ a. ⌜ gave a (now (ring .entry)) (now (reply .exit))
         ≡ step (stateOf r (now (ring .entry))) (scan (Fetch (now (called .entry)) most (now (reply .entry)))) ⌝ }
 {
-    if !state::sound_with(r, ring) {
+    if !sound::sound_with(r, ring) {
         return After::refused(Why::Unsound, r);
     }
     if is_other(called, r) {

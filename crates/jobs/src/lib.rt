@@ -69,7 +69,7 @@ pub fn start(from: u8, count: u32, r: Record) -> Record
 pub fn waits(s: Scan) -> bool
     ensures { λ b. ⌜ b ≡ (pending s || erred s) ⌝ }
 {
-    state::scan::is_pending(s) | state::scan::is_erred(s)
+    words::is_pending(s) | words::is_erred(s)
 }
 
 // Pending or Erred ends the job; Scanning or Finishing sets stop-asked.

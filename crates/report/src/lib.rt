@@ -34,10 +34,10 @@ pub fn bytes(r: Record, ring: &mut [u8], given: &[u8]) -> After
     let c = r.scanner;
     let s = c.state;
     let g = r.ring;
-    if !state::is_sound(r, ring.len()) {
+    if !sound::is_sound(r, ring.len()) {
         return After::refused(Why::Unsound, r);
     }
-    if !state::scan::is_scanning(s) {
+    if !words::is_scanning(s) {
         return After::refused(Why::WrongState, r);
     }
     if !ring::put_in(ring, g, given) {
@@ -52,10 +52,10 @@ pub fn side_ended(r: Record, ring: &[u8]) -> After
 {
     let c = r.scanner;
     let s = c.state;
-    if !state::sound_with(r, ring) {
+    if !sound::sound_with(r, ring) {
         return After::refused(Why::Unsound, r);
     }
-    if !state::scan::is_scanning(s) {
+    if !words::is_scanning(s) {
         return After::refused(Why::WrongState, r);
     }
     After::told(Answer::Done, sensors::end_side(r))
@@ -71,10 +71,10 @@ fn with_tray(value: u8, r: Record) -> Record
 pub fn tray(r: Record, ring: &[u8], value: u8) -> After
     ensures { λ a. ⌜ gave a (now (ring .entry)) [] ≡ step (stateOf r (now (ring .entry))) (report (Tray value)) ⌝ }
 {
-    if !state::sound_with(r, ring) {
+    if !sound::sound_with(r, ring) {
         return After::refused(Why::Unsound, r);
     }
-    if !state::asked::is_marked(value) {
+    if !words::is_marked(value) {
         return After::refused(Why::Unlisted, r);
     }
     After::told(Answer::Done, with_tray(value, r))
@@ -83,10 +83,10 @@ pub fn tray(r: Record, ring: &[u8], value: u8) -> After
 pub fn path(r: Record, ring: &[u8], value: u8) -> After
     ensures { λ a. ⌜ gave a (now (ring .entry)) [] ≡ step (stateOf r (now (ring .entry))) (report (Path value)) ⌝ }
 {
-    if !state::sound_with(r, ring) {
+    if !sound::sound_with(r, ring) {
         return After::refused(Why::Unsound, r);
     }
-    if !state::asked::is_marked(value) {
+    if !words::is_marked(value) {
         return After::refused(Why::Unlisted, r);
     }
     After::told(Answer::Done, sensors::set_path(value, r))
@@ -96,7 +96,7 @@ pub fn path(r: Record, ring: &[u8], value: u8) -> After
 pub fn tick_in(r: Record, length: usize) -> After
     ensures { λ a. ⌜ ((ring : List ℕ) → len ring ≡ length → gave a ring [] ≡ step (stateOf r ring) (report Tick)) ⌝ }
 {
-    if !state::is_sound(r, length) {
+    if !sound::is_sound(r, length) {
         return After::refused(Why::Unsound, r);
     }
     After::told(Answer::Done, sensors::tick(r))

@@ -61,13 +61,13 @@ pub fn start_scan(r: Record, ring: &[u8], from: u8, count: u32, append: u8, aske
     let s = c.state;
     let t = r.settings;
     let source = sides::settle(from, t.feeder);
-    if !state::sound_with(r, ring) {
+    if !sound::sound_with(r, ring) {
         return After::refused(Why::Unsound, r);
     }
     if !all_listed(append, from, source, count) {
         return After::refused(Why::Unlisted, r);
     }
-    if !state::scan::is_idle(s) {
+    if !words::is_idle(s) {
         return After::refused(Why::WrongState, r);
     }
     let n = jobs::give(sides::settle(append, t.append), asked, r);
@@ -80,13 +80,13 @@ pub fn start(r: Record, ring: &[u8], job: u32, from: u8, count: u32) -> After
     let c = r.scanner;
     let s = c.state;
     let source = sides::settle(from, r.settings.feeder);
-    if !state::sound_with(r, ring) {
+    if !sound::sound_with(r, ring) {
         return After::refused(Why::Unsound, r);
     }
     if !are_listed(from, source, count) {
         return After::refused(Why::Unlisted, r);
     }
-    if state::asked::not_held(job, r) {
+    if words::not_held(job, r) {
         return After::refused(Why::OtherJob, r);
     }
     if !jobs::waits(s) {

@@ -12,10 +12,10 @@ ghost use Rattle.answers.specs.Told.{stateOf, gave};
 pub fn stop(r: Record, ring: &[u8], job: u32) -> After
     ensures { λ a. ⌜ gave a (now (ring .entry)) [] ≡ step (stateOf r (now (ring .entry))) (scan (Stop job)) ⌝ }
 {
-    if !state::sound_with(r, ring) {
+    if !sound::sound_with(r, ring) {
         return After::refused(Why::Unsound, r);
     }
-    if state::asked::not_held(job, r) {
+    if words::not_held(job, r) {
         return After::refused(Why::OtherJob, r);
     }
     After::told(Answer::Done, jobs::stop(r))
@@ -24,10 +24,10 @@ pub fn stop(r: Record, ring: &[u8], job: u32) -> After
 pub fn abort(r: Record, ring: &[u8], job: u32) -> After
     ensures { λ a. ⌜ gave a (now (ring .entry)) [] ≡ step (stateOf r (now (ring .entry))) (scan (Abort job)) ⌝ }
 {
-    if !state::sound_with(r, ring) {
+    if !sound::sound_with(r, ring) {
         return After::refused(Why::Unsound, r);
     }
-    if state::asked::not_held(job, r) {
+    if words::not_held(job, r) {
         return After::refused(Why::OtherJob, r);
     }
     After::told(Answer::Done, moves::end(r))

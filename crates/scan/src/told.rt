@@ -13,10 +13,10 @@ ghost use Rattle.answers.specs.Told.{stateOf, gave};
 pub fn get_destination(r: Record, ring: &[u8], job: u32) -> After
     ensures { λ a. ⌜ gave a (now (ring .entry)) [] ≡ step (stateOf r (now (ring .entry))) (scan (GetDestination job)) ⌝ }
 {
-    if !state::sound_with(r, ring) {
+    if !sound::sound_with(r, ring) {
         return After::refused(Why::Unsound, r);
     }
-    if state::asked::not_held(job, r) {
+    if words::not_held(job, r) {
         return After::refused(Why::OtherJob, r);
     }
     After::told(Answer::Destination(r.side.destination), r)
@@ -28,7 +28,7 @@ pub fn get_state(r: Record, ring: &[u8]) -> After
     let c = r.scanner;
     let s = c.state;
     let why = c.failure;
-    if !state::sound_with(r, ring) {
+    if !sound::sound_with(r, ring) {
         return After::refused(Why::Unsound, r);
     }
     After::told(Answer::State(s, why), r)
@@ -39,7 +39,7 @@ pub fn get_side_information(r: Record, ring: &[u8]) -> After
     ensures { λ a. ⌜ gave a (now (ring .entry)) [] ≡ step (stateOf r (now (ring .entry))) (scan GetSideInformation) ⌝ }
 {
     let d = r.side;
-    if !state::sound_with(r, ring) {
+    if !sound::sound_with(r, ring) {
         return After::refused(Why::Unsound, r);
     }
     After::told(Answer::Sides(d.number, d.count, 0), r)

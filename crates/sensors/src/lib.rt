@@ -37,7 +37,7 @@ fn is_fed(r: Record) -> bool
 {
     let c = r.scanner;
     let s = c.state;
-    state::scan::is_scanning(s) & (r.settings.feeder == 1)
+    words::is_scanning(s) & (r.settings.feeder == 1)
 }
 
 // The jam of a sheet that is being scanned: the ring is emptied and an asked stop forgotten; a sign of life.
@@ -87,9 +87,9 @@ pub fn tick(r: Record) -> Record
     let c = r.scanner;
     let s = c.state;
     let granted = r.job.granted.seconds;
-    if state::scan::is_idle(s) {
+    if words::is_idle(s) {
         return r;
     }
-    let due = state::scan::limit_of(s, granted);
+    let due = words::limit_of(s, granted);
     pass_second(due, r)
 }

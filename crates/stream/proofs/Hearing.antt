@@ -7,14 +7,16 @@ use native.Mathlib.Omega.{arith}
 use lib.ListN.{length, take, drop, length-drop}
 use lib.Seq.{drop-append-le, take-append-le}
 use Rattle.answers.specs.declared.Request.{Request}
-use Rattle.records.specs.declared.Front.{Front}
-use Rattle.records.specs.declared.Reading.{Reading}
-use Rattle.records.specs.Reading.{secondMark, lengthWidth, headOf, front, placed, readWith, readAt, cut, partOf}
-use Rattle.records.proofs.Stable.{front-stable}
-use Rattle.records.proofs.Admits.{front-inside, front-listed, whole-at, read-places}
-use Rattle.requests.specs.declared.Asking.{Asking}
-use Rattle.requests.specs.Requested.{askingOf, givenOf}
-use Rattle.requests.proofs.Admits.{isCall, admitted}
+use Rattle.desk_records.specs.declared.Front.{Front}
+use Rattle.desk_records.specs.declared.Reading.{Reading}
+use Rattle.desk_records.specs.declared.Hearing.{Hearing}
+use Rattle.desk_records.specs.Hearing.{hearAt}
+use Rattle.desk_records.specs.Reading.{secondMark, lengthWidth, headOf, front, placed, readWith, readAt, cut, partOf}
+use Rattle.desk_records.proofs.Stable.{front-stable}
+use Rattle.desk_records.proofs.Admits.{front-inside, whole-at, read-places}
+use Rattle.desk_records.proofs.Heard.{heard-record, heard-none}
+use Rattle.desk_kinds.specs.declared.Asking.{Asking}
+use Rattle.desk_kinds.specs.Kinds.{askingOf, givenOf}
 use Rattle.stream.specs.Desk.{asks, wrong, heardAs, heardIn, payloadOf, heard}
 
 abbrev pub fronted : List ℕ → Front
@@ -60,32 +62,23 @@ asks-whole s (Front.Wrong fault i) e h = let z : _≡_ {A = ℕ} 0 1 = cc in abs
 pub heard-whole : (s : List ℕ) {k : ℕ} {q : Request} {given : List ℕ} {size : ℕ} → heard s ≡ asks k q given size → Whole s size
 heard-whole s h = asks-whole s (fronted s) refl (sym (heard-front s (fronted s) refl) ∙ h)
 
--- every record that reads asks something: the desk hears `wrong` only where none reads
-pub every-record-asks : (s : List ℕ) {k n : ℕ} → fronted s ≡ Front.Whole k n → isCall (askingOf k (payloadOf s n)) ≡ true
-every-record-asks s {k} {n} e = admitted k n (payloadOf s n) (front-listed secondMark lengthWidth s e)
-
 -- ---- by what reading at a place answered
 module _ (s : List ℕ) (at : ℕ) where
-  module _ (k start n next : ℕ) (e : readAt s at ≡ Reading.Record k start n next) (body : List ℕ) (b : body ≡ partOf s start n)
-      (ask : Asking) (a : ask ≡ askingOf k body) where
-    as-asked : heard (drop at s) ≡ heardAs k body (headOf lengthWidth + n) ask
-    as-asked =
-        let same : payloadOf (drop at s) n ≡ body = sym (b ∙ read-places s at e .4) in
-        heard-front (drop at s) (Front.Whole k n) (whole-at secondMark lengthWidth s at e)
-        ∙ ap (λ (p : List ℕ). heardAs k p (headOf lengthWidth + n) (askingOf k p)) same
-        ∙ ap (heardAs k body (headOf lengthWidth + n)) (sym a)
-
-    pub heard-asking : {q : Request} → ask ≡ Asking.Asks q → heard (drop at s) ≡ asks k q (givenOf k body) (headOf lengthWidth + n)
-    heard-asking f = as-asked ∙ ap (heardAs k body (headOf lengthWidth + n)) f
-
-    pub heard-unlisted : ask ≡ Asking.Unlisted → heard (drop at s) ≡ wrong
-    heard-unlisted f = as-asked ∙ ap (heardAs k body (headOf lengthWidth + n)) f
+  -- a record and what it asks
+  pub heard-asking : {k start n next : ℕ} {q : Request} → hearAt s at ≡ Hearing.Record k q start n next
+      → heard (drop at s) ≡ asks k q (givenOf k (partOf s start n)) (headOf lengthWidth + n)
+  heard-asking {k} {start} {n} h =
+      let e = heard-record s at h .0 in
+      heard-front (drop at s) (Front.Whole k n) (whole-at secondMark lengthWidth s at e)
+      ∙ ap (λ (p : List ℕ). heardAs k p (headOf lengthWidth + n) (askingOf k p)) (sym (read-places s at e .4))
+      ∙ ap (heardAs k (partOf s start n) (headOf lengthWidth + n)) (heard-record s at h .1)
 
   unread : (f : Front) {place : ℕ} → fronted (drop at s) ≡ f → placed lengthWidth at f ≡ Reading.Bad place → heard (drop at s) ≡ wrong
   unfolding placed
   unread (Front.Whole k n) e h = let z : _≡_ {A = ℕ} 0 1 = cc in absurd (omega arith)
   unread (Front.Wrong fault i) e h = heard-front (drop at s) (Front.Wrong fault i) e
 
-  pub heard-bad : {place : ℕ} → readAt s at ≡ Reading.Bad place → heard (drop at s) ≡ wrong
+  -- or nothing that reads
+  pub heard-bad : {place : ℕ} → hearAt s at ≡ Hearing.Bad place → heard (drop at s) ≡ wrong
   unfolding readWith
-  heard-bad h = unread (fronted (drop at s)) refl h
+  heard-bad h = unread (fronted (drop at s)) refl (heard-none s at h)

@@ -10,11 +10,11 @@ use lib.ListN.{length, getD, drop}
 use borrow.Author.Tests.{le-leb}
 use Rattle.rules.specs.Calls.{State}
 use Rattle.rules.specs.Machine.{step}
-use Rattle.records.specs.declared.Fault.{Fault}
-use Rattle.records.specs.declared.Front.{Front}
-use Rattle.records.specs.Kinds.{limitsOf, listed, within}
-use Rattle.records.specs.Reading.{firstMark, secondMark, lengthWidth, lengthAt, headOf, lengthIn, expect, sized, front, cut}
-use Rattle.records.proofs.Rows.{listed-short}
+use Rattle.desk_records.specs.declared.Fault.{Fault}
+use Rattle.desk_records.specs.declared.Front.{Front}
+use Rattle.desk_kinds.specs.Kinds.{limitsOf, isListed, within}
+use Rattle.desk_records.specs.Reading.{firstMark, secondMark, lengthWidth, lengthAt, headOf, lengthIn, expect, sized, front, cut}
+use Rattle.desk_kinds.proofs.Entries.{listed-short}
 use Rattle.line.specs.Line.{lineRoom}
 use Rattle.stream.specs.Desk.{Heard, asks, wrong, heard, callOf}
 use Rattle.stream.specs.Window.{Progress, begun, answered, broken, waits, roomy, served}
@@ -46,11 +46,11 @@ pub never-cut : (s : List ℕ) → longest ≤ length s → cut (fronted s) ≡ 
 unfolding front
 never-cut s h =
     let k = getD s 2 0 in
-    let kinded = expect s 2 1 (listed (limitsOf k)) Fault.Kind (sized k lengthWidth s) in
+    let kinded = expect s 2 1 (isListed (limitsOf k)) Fault.Kind (sized k lengthWidth s) in
     let second = expect s 1 1 (eqb (getD s 1 0) secondMark) Fault.Mark kinded in
     there s 0 1 (eqb (getD s 0 0) firstMark) Fault.Mark second (omega arith) refl
     (λ _. there s 1 1 (eqb (getD s 1 0) secondMark) Fault.Mark kinded (omega arith) refl
-    (λ _. there s 2 1 (listed (limitsOf k)) Fault.Kind (sized k lengthWidth s) (omega arith) refl (λ _. sized-uncut k s h)))
+    (λ _. there s 2 1 (isListed (limitsOf k)) Fault.Kind (sized k lengthWidth s) (omega arith) refl (λ _. sized-uncut k s h)))
 
 module _ (base : ℕ) (last : Bool) (room : ℕ) where
   abbrev Grown : List ℕ → Type 0

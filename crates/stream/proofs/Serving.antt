@@ -17,11 +17,13 @@ use Rattle.answers.specs.declared.Request.{Request}
 use Rattle.text.specs.Put.{Puts}
 use Rattle.text.specs.Digits.{mostDigits}
 use Rattle.text.proofs.Putting.{put-none, then, moved, size, whole-next, whole-stands, length-digits}
-use Rattle.records.specs.declared.Reading.{Reading}
-use Rattle.records.specs.Reading.{headOf, lengthWidth, readAt, cutAt, partOf}
-use Rattle.records.proofs.Admits.{read-places}
-use Rattle.requests.specs.declared.Asking.{Asking}
-use Rattle.requests.specs.Requested.{askingOf, givenOf}
+use Rattle.desk_records.specs.declared.Reading.{Reading}
+use Rattle.desk_records.specs.Reading.{headOf, lengthWidth, readAt, cutAt, partOf}
+use Rattle.desk_records.proofs.Admits.{read-places}
+use Rattle.desk_records.proofs.Heard.{heard-record}
+use Rattle.desk_records.specs.declared.Hearing.{Hearing}
+use Rattle.desk_records.specs.Hearing.{hearAt}
+use Rattle.desk_kinds.specs.Kinds.{givenOf}
 use Rattle.line.specs.Line.{lineFor, lineRoom}
 use Rattle.line.proofs.Bound.{step-bound}
 use Rattle.stream.specs.Desk.{asks, wrong, heard, replyRoom, callWith, callOf, badLine, badText}
@@ -163,23 +165,26 @@ module _ {s : List ℕ} {base : ℕ} {last : Bool} {ring₀ reply₀ out₀ : Li
           (ap (λ (x : Record). stateOf x ring) en) ea ee (simp length-append (omega (arith, line-short w (base + at), roomy)))
           (then (here .puts) p) (here .inside)
 
-      module _ (k start n place : ℕ) (er : readAt s at ≡ Reading.Record k start n place) where
+      module _ {k start n place : ℕ} {q : Request} (h : hearAt s at ≡ Hearing.Record k q start n place) where
+        er : readAt s at ≡ Reading.Record k start n place
+        er = heard-record s at h .0
+
         pub serving-less : length s - place < length s - at
         serving-less = omega (arith, read-places s at er)
 
-        pub serving-again : (body : List ℕ) → body ≡ partOf s start n → (ask : Asking) → ask ≡ askingOf k body → (q : Request) → ask ≡ Asking.Asks q
+        pub serving-again : (body : List ℕ) → body ≡ partOf s start n
             → (given : List ℕ) → given ≡ givenOf k body → (next' : Record) (ring' reply' out' : List ℕ) (filled' : ℕ)
             → stateOf next' ring' ≡ step (stateOf next ring) (callWith (length reply) q given) .state
             → Puts out filled (lineFor k (step (stateOf next ring) (callWith (length reply) q given))) filled' out'
             → length ring' ≡ length ring → length reply' ≡ length reply
             → Serving s base last ring₀ reply₀ out₀ next₀ ring' reply' out' next' place filled'
-        serving-again body eb ask ea q eq given eg next' ring' reply' out' filled' es ep el em =
+        serving-again body eb given eg next' ring' reply' out' filled' es ep el em =
             let o = step (stateOf next ring) (callOf q given) in
             let p = come next ring at (here .text) in
             let long = headOf lengthWidth + n in
             let text' : List ℕ = here .text ++ lineFor k o in
             let hears : heard (drop at s) ≡ asks k q given long =
-            heard-asking s at k start n place er body eb ask ea eq ∙ ap (λ (g : List ℕ). asks k q g long) (sym eg) in
+            heard-asking s at h ∙ ap (λ (g : List ℕ). asks k q g long) (sym (eg ∙ ap (givenOf k) eb)) in
             let state : o .state ≡ stateOf next' ring' = sym (es ∙ ap (λ (m : ℕ). step (stateOf next ring) (callWith m q given) .state) (here .lends)) in
             let on : at + long ≡ place = omega (arith, read-places s at er) in
             record {

@@ -9,7 +9,7 @@ use lib.ListN.{length, drop, replicate, length-drop, length-append}
 use Rattle.rules.specs.Calls.{State}
 use Rattle.rules.specs.Machine.{step, start}
 use Rattle.answers.specs.declared.Request.{Request}
-use Rattle.records.specs.Reading.{cut}
+use Rattle.desk_records.specs.Reading.{cut}
 use Rattle.line.specs.Line.{lineFor}
 use Rattle.stream.specs.Desk.{Heard, asks, wrong, heard, callOf, badLine, badText, ringRoom, deskText}
 use Rattle.stream.specs.Window.{Progress, begun, answered, broken, roomy, served}

@@ -7,10 +7,10 @@ use Rattle.rules.specs.Machine.{run, start}
 use Rattle.answers.specs.declared.Request.{Request}
 use Rattle.answers.specs.Asked.{asked}
 use Rattle.text.specs.Digits.{decimal}
-use Rattle.records.specs.declared.Front.{Front}
-use Rattle.records.specs.Reading.{secondMark, lengthWidth, headOf, front}
-use Rattle.requests.specs.declared.Asking.{Asking}
-use Rattle.requests.specs.Requested.{askingOf, givenOf}
+use Rattle.desk_records.specs.declared.Front.{Front}
+use Rattle.desk_records.specs.Reading.{secondMark, lengthWidth, headOf, front}
+use Rattle.desk_kinds.specs.declared.Asking.{Asking}
+use Rattle.desk_kinds.specs.Kinds.{askingOf, givenOf}
 use Rattle.line.specs.Line.{lineFor}
 
 -- ---- one record

@@ -10,7 +10,7 @@ use Rattle.rules.specs.Calls.{State, Outcome}
 use Rattle.rules.specs.Machine.{step}
 use Rattle.answers.specs.Told.{stateOf}
 use Rattle.text.specs.Put.{over}
-use Rattle.records.specs.Reading.{secondMark, lengthWidth, front, cut}
+use Rattle.desk_records.specs.Reading.{secondMark, lengthWidth, front, cut}
 use Rattle.line.specs.Line.{lineFor, lineRoom}
 use Rattle.stream.specs.Desk.{Heard, asks, wrong, heard, callOf, badText}
 

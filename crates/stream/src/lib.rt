@@ -1,7 +1,6 @@
 // A window of the desk's input, answered record by record into a lent buffer.
 use answers::Request;
-use records::Reading;
-use requests::Asking;
+use desk_records::Hearing;
 use rules::Record;
 ghost use mathlib.Core.Path.{_≡_};
 ghost use mathlib.Core.Bool.{not, cond, _&&_};
@@ -13,7 +12,7 @@ ghost use Rattle.rules.specs.Machine.{step};
 ghost use Rattle.answers.specs.Told.{stateOf};
 ghost use Rattle.answers.specs.Asked.{asked, replied};
 ghost use Rattle.text.specs.Put.{Puts};
-ghost use Rattle.records.specs.Reading.{cutAt};
+ghost use Rattle.desk_records.specs.Reading.{cutAt};
 ghost use Rattle.line.specs.Line.{lineFor, lineRoom};
 ghost use Rattle.stream.specs.Desk.{replyRoom, callWith, badLine, badText};
 ghost use Rattle.stream.specs.Window.{begun, served, Holds, unread};
@@ -92,7 +91,7 @@ fn stop(
     ensures { λ t. ⌜ t .ended ≡ not (cutAt (now (s .entry)) at && not last) ⌝ }
     ensures { λ t. ⌜ Puts (now (out .entry)) filled (cond (cutAt (now (s .entry)) at && not last) [] (badText (base + at))) (t .filled) (now (out .exit)) ⌝ }
 {
-    if records::read::is_cut(s, at) & !last {
+    if desk_records::read::is_cut(s, at) & !last {
         return Served {
             next,
             at,
@@ -144,22 +143,19 @@ fn serve_with(
                 ended: false,
             };
         }
-        let reading = records::read::read(s, at);
-        let Reading::Record {
+        let hearing = desk_records::read::hear(s, at);
+        let Hearing::Record {
             kind,
+            request,
             start,
             len,
             next: place,
-        } = reading
+        } = hearing
         else {
             return stop(next, s, at, base, last, out, filled);
         };
-        let body = records::read::payload(s, start, len);
-        let asking = requests::request(kind, body);
-        let Asking::Asks(request) = asking else {
-            return stop(next, s, at, base, last, out, filled);
-        };
-        let given = requests::given(kind, body);
+        let body = desk_records::read::payload(s, start, len);
+        let given = desk_kinds::payload::given(kind, body);
         let turn = answer(next, ring, reply, kind, request, given, out, filled);
         next = turn.next;
         filled = turn.filled;

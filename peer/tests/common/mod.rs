@@ -136,14 +136,8 @@ impl Bench {
     }
 }
 
-/// The whole input's text, from one window and much room.
-pub fn text_at_once(input: &[u8]) -> String {
-    text_in_windows(input, input.len().max(1), LINE_MOST * (input.len() + 1))
-}
-
 /// The whole input's text from a host that shows so many bytes more at a time and lends so much room for lines.
-pub fn text_in_windows(input: &[u8], step: usize, room: usize) -> String {
-    let mut bench = Bench::desk();
+pub fn text_in_windows(mut bench: Bench, input: &[u8], step: usize, room: usize) -> String {
     let mut text = Vec::new();
     let (mut place, mut shown) = (0, 0);
     loop {

@@ -3,7 +3,7 @@
 //!     differ [SECONDS] [--seed N] [--part P] [--from CASE]
 //!
 //! SECONDS is the time for all parts together, 100 unless given. The seed fixes every case; a slower machine comes less
-//! far. Exit 0: all agree. Exit 1: something differs, and the shortest stream that shows it is printed; or something
+//! far. Exit 0: all agree. Exit 1: something differs, and the shortest case that shows it is printed; or something
 //! that the paper allows is not reached. One part can be run alone, and from a given case on.
 //!
 //! BENCH_BOX_TRIAL names the box program, built from box.c and the library, or a program that runs it; BENCH_BOX_DESK
@@ -12,19 +12,25 @@
 //! Built with panics that unwind, a peer that panics is told and shrunk like any other difference.
 
 use std::process::ExitCode;
-use std::sync::atomic::Ordering;
 use std::time::{Duration, Instant};
-use trials::pair::{Pair, PLACE};
+use trials::pair::{place, Pair};
 use trials::parts::{damage, desks, memory, single, stored, streams, Differs, Trial};
 
 const USAGE: &str = "differ [SECONDS] [--seed N] [--part P] [--from CASE]";
 const SEED: u64 = 29_341;
 
-type Part = fn(&mut Trial, Duration) -> Result<(), Differs>;
+/// Runs until a time and says what it came to.
+type Part = fn(&mut Trial, Instant) -> Result<String, Differs>;
 
 /// The parts with their shares of the time, in a hundred.
-const PARTS: [(Part, u32); 6] =
-    [(streams::run, 34), (damage::run, 16), (single::run, 18), (stored::run, 18), (memory::run, 5), (desks::run, 9)];
+const PARTS: [(&str, Part, f64); 6] = [
+    ("streams", streams::run, 34.0),
+    ("damage", damage::run, 16.0),
+    ("one at a time", single::run, 18.0),
+    ("any record", stored::run, 18.0),
+    ("memory", memory::run, 5.0),
+    ("desk programs", desks::run, 9.0),
+];
 
 struct Arguments {
     seconds: f64,
@@ -51,13 +57,34 @@ fn arguments() -> Option<Arguments> {
 fn tell_panic(panic: &std::panic::PanicHookInfo) {
     let peers = panic.location().is_some_and(|place| place.file().contains("peer/src/"));
     if !peers || cfg!(panic = "abort") {
-        let [part, case, seed] = PLACE.each_ref().map(|place| place.load(Ordering::Relaxed));
-        println!("\nDIFFERENCE: a panic in part {part}, case {case}, seed {seed}: {panic}");
+        println!("\nDIFFERENCE: a panic in {}: {panic}", place());
     }
 }
 
+/// Runs the parts. Gives whether all agree and all is reached.
+fn run(trial: &mut Trial, Arguments { seconds, part, .. }: &Arguments) -> Result<bool, Differs> {
+    for (number, (name, run, share)) in (1..).zip(PARTS) {
+        if part.is_some_and(|part| part != number) {
+            continue;
+        }
+        let (begun, calls, questions) = (Instant::now(), trial.pair.calls, trial.pair.questions);
+        let said = run(trial, begun + Duration::from_secs_f64(seconds * share / 100.0))?;
+        let (calls, questions) = (trial.pair.calls - calls, trial.pair.questions - questions);
+        let seconds = begun.elapsed().as_secs_f64();
+        println!(
+            "part {number}, {name}: {said}; {calls} calls and {questions} questions compared, {seconds:.1} seconds"
+        );
+    }
+    let with_streams = part.map_or(true, |part| part == 1);
+    trial.tally.print(with_streams);
+    let faults = trial.tally.faults(with_streams);
+    faults.iter().for_each(|fault| println!("{fault}"));
+    // A single part does not reach everything.
+    Ok(faults.is_empty() || part.is_some())
+}
+
 fn main() -> ExitCode {
-    let Some(Arguments { seconds, seed, part, first }) = arguments() else {
+    let Some(arguments) = arguments() else {
         eprintln!("{USAGE}");
         return ExitCode::from(2);
     };
@@ -73,34 +100,17 @@ fn main() -> ExitCode {
             return ExitCode::from(2);
         }
     };
-    let begun = Instant::now();
-    let mut trial = Trial::new(pair, seed, first);
-    for (place, (run, share)) in PARTS.into_iter().enumerate() {
-        if part.is_some_and(|part| part != place + 1) {
-            continue;
-        }
-        if run(&mut trial, Duration::from_secs_f64(seconds * share as f64 / 100.0)).is_err() {
-            println!("differ: something differs (seed {seed}, {:.0} seconds)", begun.elapsed().as_secs_f64());
-            return ExitCode::FAILURE;
-        }
-    }
-    trial.tally.print();
-    let mut faults = trial.tally.faults();
-    if part.is_none() || part == Some(1) {
-        trial.depths.print();
-        faults.extend(trial.depths.faults());
-    }
-    for fault in &faults {
-        println!("{fault}");
-    }
-    println!(
-        "differ: all agree, {} calls and {} questions compared (seed {seed}, {:.0} seconds)",
-        trial.pair.calls,
-        trial.pair.questions,
-        begun.elapsed().as_secs_f64()
-    );
-    // A single part does not reach everything.
-    if faults.is_empty() || part.is_some() {
+    let (begun, seed) = (Instant::now(), arguments.seed);
+    let mut trial = Trial::new(pair, seed, arguments.first);
+    let outcome = run(&mut trial, &arguments);
+    let seconds = begun.elapsed().as_secs_f64();
+    let Ok(all_reached) = outcome else {
+        println!("differ: something differs (seed {seed}, {seconds:.0} seconds)");
+        return ExitCode::FAILURE;
+    };
+    let Pair { calls, questions, .. } = trial.pair;
+    println!("differ: all agree, {calls} calls and {questions} questions compared (seed {seed}, {seconds:.0} seconds)");
+    if all_reached {
         ExitCode::SUCCESS
     } else {
         ExitCode::FAILURE

@@ -1,126 +1,80 @@
 //! Part 2: damaged streams.
 
-use super::streams::{some_offset, some_start};
+use super::streams::{cut_and_whole, serve};
 use super::{Differs, Trial};
-use crate::case::{usual, Call, Case, How, Item, Role};
+use crate::case::{whole, Call, Start};
+use crate::guide::{Guide, Mix};
 use crate::rng::Rng;
-use crate::streams::{ring_length, whole, Guide, Mix, KINDS};
-use crate::words::FRESH;
-use peer::Record;
-use std::time::{Duration, Instant};
+use crate::start::{ring_length, some_start};
+use peer::KINDS;
+use std::time::Instant;
 
 /// So many streams at least, whatever the time.
 const LEAST: u64 = 2000;
 
-pub fn run(trial: &mut Trial, time: Duration) -> Result<(), Differs> {
-    let until = Instant::now() + time;
-    let count = trial.count();
-    let heads = every_head(trial)?;
-    let (mut streams, mut bytes) = (0, 0);
+pub fn run(trial: &mut Trial, until: Instant) -> Result<String, Differs> {
+    let heads = every_head(trial)? + every_short_head(trial)?;
     let bad_before = trial.tally.bad;
-    let mut text = Vec::new();
-    while streams < LEAST || Instant::now() < until {
-        let number = trial.first + streams;
-        trial.at("2, damage", number);
-        let case = damaged(trial, number);
-        text.clear();
-        trial.run(case, &mut text)?;
-        trial.tally.note_text(&text);
-        streams += 1;
-        bytes += text.len();
-    }
-    trial.settle()?;
-    println!(
-        "part 2, damage: {heads} heads with every kind and length, {streams} damaged streams ({} end in bad), \
-         {bytes} bytes of text; {}",
-        trial.tally.bad - bad_before,
-        trial.since(&count)
-    );
-    Ok(())
+    let streams = trial.cases("2, damage", LEAST, until, |trial, mut rng, number| {
+        let length = ring_length(&mut rng);
+        let start = some_start(&mut rng, length, number);
+        let stream = if rng.chance(10) { noise(&mut rng) } else { damaged(&mut rng, &start) };
+        cut_and_whole(trial, &start, stream, &mut rng).map(|_| ())
+    })?;
+    let bad = trial.tally.bad - bad_before;
+    Ok(format!("{heads} heads with every kind and length, {streams} damaged streams ({bad} times bad)"))
 }
 
-/// Every kind with every length, the payload whole, one byte short, one byte long; every short head.
+/// Every kind with every length, the payload whole, one byte short, one byte long.
 fn every_head(trial: &mut Trial) -> Result<u64, Differs> {
     let mut heads = 0;
-    let mut text = Vec::new();
-    for kind in 0..=255 {
-        for length in 0..=255u8 {
-            let mut record = vec![0xA5, 0x5A, kind, length];
-            record.resize(4 + length as usize + 1, 0x5A);
-            for bytes in [4 + length as usize, 3 + length as usize, 5 + length as usize] {
-                heads += 1;
-                trial.at("2, heads", heads);
-                let whole = Case {
-                    words: FRESH,
-                    ring_length: 16,
-                    fill: 0,
-                    items: vec![usual(record[..bytes].to_vec())],
-                    how: How::Windows { cut: None, base: 0 },
-                };
-                // Where more input may come, a cut record waits.
-                let open = Call::Serve { input: record[..bytes].to_vec(), offset: 0, last: false, room: 1280 };
-                let waiting = Case {
-                    items: vec![whole.items[0].clone(), Item { call: open, role: Role::AsIs }],
-                    how: How::Calls,
-                    ..whole.clone()
-                };
-                trial.run(whole, &mut text)?;
-                trial.run(waiting, &mut text)?;
-            }
-            text.clear();
-        }
-    }
-    for first in [0xA5, 0x5A, 0x00, 0xA4] {
-        for second in [0x5A, 0xA5, 0x00, 0x5B] {
-            for kind in 0..=255 {
-                let head = [first, second, kind];
-                for length in 0..=3 {
-                    heads += 1;
-                    trial.at("2, short heads", heads);
-                    for last in [false, true] {
-                        let call = Call::Serve { input: head[..length].to_vec(), offset: 7, last, room: 640 };
-                        let case = Case {
-                            words: FRESH,
-                            ring_length: 1,
-                            fill: 0,
-                            items: vec![usual(head[..length].to_vec()), Item { call, role: Role::AsIs }],
-                            how: How::Calls,
-                        };
-                        trial.run(case, &mut text)?;
-                    }
-                }
-            }
-            text.clear();
+    for (kind, length) in (0..=255).flat_map(|kind| (0..=255).map(move |length| (kind, length))) {
+        let mut record = vec![0xA5, 0x5A, kind, length];
+        record.resize(4 + length as usize + 1, 0x5A);
+        for bytes in [4 + length as usize, 3 + length as usize, 5 + length as usize] {
+            heads += 1;
+            trial.at("2, heads", heads);
+            serve(trial, &Start::fresh(16), &record[..bytes].into(), 0, None)?;
+            waiting(trial, &Start::fresh(16), &record[..bytes], Call::serve(Vec::new(), 0, false, 1280))?;
         }
     }
     Ok(heads)
 }
 
-fn damaged(trial: &mut Trial, number: u64) -> Case {
-    let mut rng = Rng::nth(trial.seed ^ 0x0200, number);
-    let mix = rng.pick(&Mix::ALL);
-    let ring_length = ring_length(&mut rng);
-    let words = some_start(&mut rng, ring_length);
-    let bytes = if rng.chance(10) {
-        noise(&mut rng)
-    } else {
-        let records = rng.between(1, 120);
-        let start = Record::from_words(&words).expect("sound words are a record");
-        let mut guide = Guide::new(Rng::new(rng.next()), start, ring_length, mix);
-        let mut bytes = Vec::new();
-        for _ in 0..records {
-            bytes.extend(guide.next());
-            if guide.broken {
-                break;
+/// Every head of less than four bytes, with a right mark and with wrong ones.
+fn every_short_head(trial: &mut Trial) -> Result<u64, Differs> {
+    let mut heads = 0;
+    let marks = [0xA5, 0x5A, 0x00, 0xA4].map(|first| [0x5A, 0xA5, 0x00, 0x5B].map(|second| (first, second)));
+    for (first, second) in marks.concat() {
+        for (kind, length) in (0..=255).flat_map(|kind| (0..=3).map(move |length| (kind, length))) {
+            heads += 1;
+            trial.at("2, short heads", heads);
+            for last in [false, true] {
+                let call = Call::serve(Vec::new(), 7, last, 640);
+                waiting(trial, &Start::fresh(1), &[first, second, kind][..length], call)?;
             }
         }
-        for _ in 0..rng.between(1, 3) {
-            damage(&mut rng, &mut bytes);
-        }
-        bytes
-    };
-    let how = How::Windows { cut: Some(rng.next()), base: some_offset(&mut rng) };
-    Case { words, ring_length, fill: number, items: pieces(&bytes), how }
+    }
+    Ok(heads)
+}
+
+/// The input by perform, and by a serve: where more input may come, a cut record waits.
+fn waiting(trial: &mut Trial, start: &Start, input: &[u8], serve: Call) -> Result<(), Differs> {
+    trial.begin(start);
+    let call = Call::perform(input.to_vec());
+    let input = call.input.clone();
+    trial.call(call)?;
+    trial.call(Call { input, ..serve })?;
+    trial.end()
+}
+
+fn damaged(rng: &mut Rng, start: &Start) -> Vec<u8> {
+    let (mix, records) = (rng.pick(&Mix::ALL), rng.between(1, 120));
+    let mut stream = Guide::new(rng, start, mix).stream(records);
+    for _ in 0..rng.between(1, 3) {
+        damage(rng, &mut stream);
+    }
+    stream
 }
 
 /// Random bytes; marks with random kinds and lengths; right heads with random payloads.
@@ -129,11 +83,11 @@ fn noise(rng: &mut Rng) -> Vec<u8> {
     let mut bytes = Vec::new();
     for _ in 0..rng.between(0, 20) {
         match style {
-            0 => bytes.push(rng.next() as u8),
-            1 => bytes.extend([0xA5, 0x5A, rng.below(0x28) as u8, rng.below(8) as u8, rng.next() as u8]),
+            0 => bytes.push(rng.byte()),
+            1 => bytes.extend([0xA5, 0x5A, rng.below(0x28) as u8, rng.below(8) as u8, rng.byte()]),
             _ => {
                 let (kind, least, most) = rng.pick(&KINDS);
-                let length = rng.between(least, most);
+                let length = rng.between(least.into(), most.into());
                 bytes.extend([0xA5, 0x5A, kind, length as u8]);
                 bytes.extend(rng.bytes(length));
             }
@@ -148,28 +102,22 @@ const TAILS: [&[u8]; 6] = [&[0xA5], &[0xA5, 0x5A], &[0x5A, 0xA5], &[0xA5, 0x5A, 
 /// Damages a stream or a record in one place.
 pub fn damage(rng: &mut Rng, bytes: &mut Vec<u8>) {
     if bytes.is_empty() {
-        bytes.push(rng.next() as u8);
+        bytes.push(rng.byte());
         return;
     }
     let place = rng.below(bytes.len());
     match rng.below(10) {
         0 | 1 => bytes.truncate(place),
-        2 => bytes[place] = rng.next() as u8,
+        2 => bytes[place] = rng.byte(),
         3 => bytes[place] ^= 1 << rng.below(8),
-        4 => bytes.insert(place, rng.next() as u8),
-        5 => {
-            bytes.remove(place);
-        }
+        4 => bytes.insert(place, rng.byte()),
+        5 => _ = bytes.remove(place),
         6 => {
             // A byte of a head.
-            let heads: Vec<usize> = heads_of(bytes);
-            let at = rng.pick(&heads) + rng.below(4);
+            let at = rng.pick(&heads_of(bytes)) + rng.below(4);
             if at < bytes.len() {
-                bytes[at] = match rng.below(3) {
-                    0 => rng.next() as u8,
-                    1 => bytes[at].wrapping_add(1),
-                    _ => bytes[at].wrapping_sub(1),
-                };
+                let (byte, any) = (bytes[at], rng.byte());
+                bytes[at] = rng.pick(&[any, byte.wrapping_add(1), byte.wrapping_sub(1)]);
             }
         }
         7 => bytes.extend(rng.pick(&TAILS)),
@@ -193,18 +141,4 @@ fn heads_of(bytes: &[u8]) -> Vec<usize> {
         heads.push(at);
     }
     heads
-}
-
-/// A stream's whole records, and what stands behind them.
-pub fn pieces(bytes: &[u8]) -> Vec<Item> {
-    let mut items = Vec::new();
-    let mut rest = bytes;
-    while let Some(length) = whole(rest) {
-        items.push(usual(rest[..length].to_vec()));
-        rest = &rest[length..];
-    }
-    for part in rest.chunks(300) {
-        items.push(usual(part.to_vec()));
-    }
-    items
 }

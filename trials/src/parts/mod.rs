@@ -6,32 +6,24 @@ pub mod single;
 pub mod stored;
 pub mod streams;
 
-use crate::case::Case;
-use crate::pair::{Pair, Shown, PLACE};
+use crate::case::{Call, Case, Start};
+use crate::pair::{place, Pair, Place, Shown, PLACE};
+use crate::rng::Rng;
 use crate::shrink;
-use crate::tally::{Depths, Tally};
-use crate::wire::{Difference, Memory};
-use std::sync::atomic::Ordering;
+use crate::tally::Tally;
+use crate::wire::{Came, Difference, Kind, Memory};
+use peer::Reading;
 use std::time::Instant;
 
 /// What the parts share.
 pub struct Trial {
     pub pair: Pair,
     pub tally: Tally,
-    pub depths: Depths,
-    pub seed: u64,
+    seed: u64,
     /// The number of the first case of each part.
-    pub first: u64,
-    /// Where the trial is: the part's name after its number, and the case.
-    part: &'static str,
-    number: u64,
-}
-
-/// What a part compared and how long it took.
-pub struct Count {
-    calls: u64,
-    questions: u64,
-    begun: Instant,
+    first: u64,
+    /// The case that is being run.
+    case: Case,
 }
 
 /// A difference was found and told.
@@ -39,37 +31,73 @@ pub struct Differs;
 
 impl Trial {
     pub fn new(pair: Pair, seed: u64, first: u64) -> Trial {
-        Trial { pair, tally: Tally::default(), depths: Depths::default(), seed, first, part: "0", number: 0 }
+        let case = Case { start: Start::fresh(1), memory: Memory::Usual, calls: Vec::new() };
+        Trial { pair, tally: Tally::default(), seed, first, case }
     }
 
     /// Where the trial is. A part's name begins with its number.
     pub fn at(&mut self, part: &'static str, number: u64) {
-        (self.part, self.number) = (part, number);
-        let digit = part.as_bytes()[0] - b'0';
-        for (place, value) in PLACE.iter().zip([digit.into(), number, self.seed]) {
-            place.store(value, Ordering::Relaxed);
-        }
+        *PLACE.lock().unwrap_or_else(|error| error.into_inner()) = Place { part, number, seed: self.seed };
     }
 
-    /// Runs the case where the trial is. Its text goes behind the text.
-    pub fn run(&mut self, case: Case, text: &mut Vec<u8>) -> Result<(), Differs> {
-        let outcome = case.run(&mut self.pair, text).map_err(|found| found.difference);
-        self.follow(outcome, case, None)
-    }
-
-    /// What the peer shows is told. Else the case is kept until the box's answers to it are compared.
-    pub fn follow(
+    /// Runs cases of a part, so many at least and then until the time is over. Each has random numbers of its own.
+    pub fn cases(
         &mut self,
-        outcome: Result<(), Difference>,
-        case: Case,
-        memory: Option<Memory>,
-    ) -> Result<(), Differs> {
-        if let Err(difference) = outcome {
-            return Err(self.tell(&case, memory, &difference));
+        part: &'static str,
+        least: u64,
+        until: Instant,
+        mut case: impl FnMut(&mut Trial, Rng, u64) -> Result<(), Differs>,
+    ) -> Result<u64, Differs> {
+        let salt = part.bytes().fold(0, |salt: u64, byte| salt.wrapping_mul(31).wrapping_add(byte.into()));
+        let mut cases = 0;
+        while cases < least || Instant::now() < until {
+            let number = self.first + cases;
+            self.at(part, number);
+            case(self, Rng::nth(self.seed ^ salt, number), number)?;
+            cases += 1;
         }
-        self.pair.keep(self.part, self.number, case, memory);
+        self.settle()?;
+        Ok(cases)
+    }
+
+    /// Begins a case.
+    pub fn begin(&mut self, start: &Start) {
+        self.pair.reset(start);
+        self.case = Case { start: *start, memory: Memory::Usual, calls: Vec::new() };
+    }
+
+    /// The next call of the case. What the peer shows by itself is told at once.
+    pub fn call(&mut self, call: Call) -> Result<Came, Differs> {
+        self.call_in(call, Memory::Usual)
+    }
+
+    pub fn call_in(&mut self, call: Call, memory: Memory) -> Result<Came, Differs> {
+        let outcome = self.pair.call(&call, memory);
+        self.case.memory = memory;
+        self.case.calls.push(call);
+        let came = outcome.map_err(|difference| self.tell(difference))?;
+        self.tally.note_text(self.pair.model.text());
+        let call = &self.case.calls[self.case.calls.len() - 1];
+        if let (604, Kind::Perform, Reading::Record { kind, .. }) = (came.number, call.kind, peer::read(&call.input, 0))
+        {
+            self.tally.note(kind, 604);
+        }
+        Ok(came)
+    }
+
+    /// Ends the case. It is kept until the box's answers to it are compared.
+    pub fn end(&mut self) -> Result<(), Differs> {
+        let calls = std::mem::take(&mut self.case.calls);
+        self.pair.keep(Case { calls, ..self.case });
         let shown = if self.pair.is_full() { self.pair.exchange() } else { None };
         self.end_at(shown)
+    }
+
+    /// One call is a case.
+    pub fn one(&mut self, start: &Start, call: Call, memory: Memory) -> Result<(), Differs> {
+        self.begin(start);
+        self.call_in(call, memory)?;
+        self.end()
     }
 
     /// All cases so far are compared.
@@ -84,34 +112,16 @@ impl Trial {
         };
         // Where there are more answers than calls, the case is the last one.
         if let Some(kept) = kept {
-            self.at(kept.part, kept.number);
-            return Err(self.tell(&kept.case, kept.memory, &difference));
+            self.at(kept.place.part, kept.place.number);
+            self.case = kept.case;
         }
-        println!("\nDIFFERENCE up to part {}, case {}: {}", self.part, self.number, difference.what);
-        Err(Differs)
+        Err(self.tell(difference))
     }
 
-    pub fn count(&self) -> Count {
-        Count { calls: self.pair.calls, questions: self.pair.questions, begun: Instant::now() }
-    }
-
-    /// What came since the count.
-    pub fn since(&self, count: &Count) -> String {
-        format!(
-            "{} calls and {} questions compared, {:.1} seconds",
-            self.pair.calls - count.calls,
-            self.pair.questions - count.questions,
-            count.begun.elapsed().as_secs_f64()
-        )
-    }
-
-    /// Tells the case where the trial is, and what differs.
-    fn tell(&mut self, case: &Case, memory: Option<Memory>, difference: &Difference) -> Differs {
-        println!("\nDIFFERENCE in part {}, case {}, seed {}", self.part, self.number, self.seed);
-        if let Some(Memory::Arena(places)) = memory {
-            println!("  record, progress, ring, reply, input and lines stand at {places:?} in the arena");
-        }
-        shrink::tell(case, &mut self.pair, difference);
+    /// Tells what differs in the case where the trial is.
+    pub fn tell(&mut self, difference: Difference) -> Differs {
+        println!("\nDIFFERENCE in {}", place());
+        shrink::tell(self.case.clone(), &mut self.pair, difference);
         Differs
     }
 }

@@ -1,42 +1,30 @@
 //! Part 1: streams that reach deep, cut into windows at random places.
 
-use super::damage::pieces;
 use super::{Differs, Trial};
-use crate::case::{usual, Case, How};
+use crate::case::{Call, Input, Start, NOT_ASKED};
+use crate::guide::{Guide, Mix};
+use crate::pair::LINES_ROOM;
 use crate::rng::Rng;
-use crate::streams::{near_wrap, ring_length, sound_words, Guide, Mix};
-use crate::wire::show_text;
-use crate::words::{Words, FRESH};
-use peer::Record;
-use std::time::{Duration, Instant};
+use crate::start::{offset, ring_length, some_start};
+use crate::tally::Passed;
+use crate::wire::{hex, show_text, Difference, Kind};
+use std::rc::Rc;
+use std::time::Instant;
 
 /// So many streams at least, whatever the time.
 const LEAST: u64 = 400;
 
-pub fn run(trial: &mut Trial, time: Duration) -> Result<(), Differs> {
-    let until = Instant::now() + time;
-    let count = trial.count();
-    let (mut streams, mut records, mut bytes) = (0, 0, 0);
-    let mut text = Vec::new();
+pub fn run(trial: &mut Trial, until: Instant) -> Result<String, Differs> {
     example(trial)?;
-    while streams < LEAST || Instant::now() < until {
-        let number = trial.first + streams;
-        trial.at("1, streams", number);
-        let case = guided(trial, number);
-        text.clear();
-        records += case.items.len();
-        trial.run(case, &mut text)?;
-        trial.tally.note_text(&text);
-        streams += 1;
-        bytes += text.len();
-    }
-    trial.settle()?;
-    println!(
-        "part 1, streams: {streams} streams of {records} records, each cut and whole, {bytes} bytes of text; {}",
-        trial.since(&count)
-    );
-    println!("  {}", trial.depths.deepest());
-    Ok(())
+    let (mut records, mut bytes) = (0, 0);
+    let streams = trial.cases("1, streams", LEAST, until, |trial, mut rng, number| {
+        let length = ring_length(&mut rng);
+        let start = some_start(&mut rng, length, number);
+        let stream = guided(trial, &mut rng, &start, &mut records);
+        bytes += cut_and_whole(trial, &start, stream, &mut rng)?.len();
+        Ok(())
+    })?;
+    Ok(format!("{streams} streams of {records} records, each cut and whole, {bytes} bytes of text"))
 }
 
 /// The paper's example, and what it prints.
@@ -47,11 +35,8 @@ const EXAMPLE_TEXT: &[u8] = b"22 0 I U 0 1 0 -\n01 0 S B 1 1 1 10\n20 0 S B 1 1 
     06 0 P U 1 2 0 2!:4142\n";
 
 fn example(trial: &mut Trial) -> Result<(), Differs> {
-    let how = How::Windows { cut: Some(1), base: 0 };
-    let case = Case { words: FRESH, ring_length: 4096, fill: 0, items: pieces(EXAMPLE), how };
-    let mut text = Vec::new();
     trial.at("1, the paper's example", 0);
-    trial.run(case, &mut text)?;
+    let text = cut_and_whole(trial, &Start::fresh(4096), EXAMPLE.to_vec(), &mut Rng::new(1))?;
     trial.settle()?;
     if text != EXAMPLE_TEXT {
         println!("\nDIFFERENCE: both boxes print {} for the paper's example", show_text(&text));
@@ -60,45 +45,104 @@ fn example(trial: &mut Trial) -> Result<(), Differs> {
     Ok(())
 }
 
-/// Where a stream begins: mostly fresh, some near a wrap, some in any sound record.
-pub fn some_start(rng: &mut Rng, ring_length: usize) -> Words {
-    match rng.below(10) {
-        0..6 => FRESH,
-        6..8 => near_wrap(rng, ring_length),
-        _ => sound_words(rng, ring_length),
-    }
-}
-
-/// Where the windows begin in the whole input.
-pub fn some_offset(rng: &mut Rng) -> u64 {
-    match rng.below(10) {
-        0..6 => 0,
-        6 => rng.below(5000) as u64,
-        7 => u64::MAX - rng.below(5000) as u64,
-        8 => rng.pick(&[9, 10, 99, u32::MAX as u64, 1 << 63, u64::MAX]),
-        _ => rng.next(),
-    }
-}
-
-fn guided(trial: &mut Trial, number: u64) -> Case {
-    let mut rng = Rng::nth(trial.seed ^ 0x0100, number);
+/// A stream of the guide. What it passes is noted.
+fn guided(trial: &mut Trial, rng: &mut Rng, start: &Start, records: &mut u64) -> Vec<u8> {
     let mix = rng.pick(&Mix::ALL);
-    let ring_length = ring_length(&mut rng);
-    let words = some_start(&mut rng, ring_length);
-    let records = match rng.below(20) {
+    let length = match rng.below(20) {
         0..10 => rng.between(5, 150),
         10..19 => rng.between(150, 1500),
         _ => 4000,
     };
-    let start = Record::from_words(&words).expect("sound words are a record");
-    let mut guide = Guide::new(Rng::new(rng.next()), start, ring_length, mix);
-    trial.depths.begin(words == FRESH);
-    let mut items = Vec::new();
-    while items.len() < records && !guide.broken {
-        let record = guide.next();
-        trial.depths.note(&guide.before, &guide.now, guide.number, &record, ring_length);
-        items.push(usual(record));
+    let mut guide = Guide::new(rng, start, mix);
+    let fresh = start.words == Start::fresh(1).words;
+    let mut stream = Vec::new();
+    for _ in 0..length {
+        let before = guide.now();
+        let record = guide.next_record();
+        stream.extend_from_slice(&record);
+        *records += 1;
+        if guide.broken {
+            break;
+        }
+        if guide.number() == 0 {
+            let (kind, payload, after, ring_length) = (record[2], &record[4..], guide.now(), start.ring_length as u64);
+            trial.tally.note_passed(&Passed { kind, payload, before, after, ring_length, fresh });
+        }
     }
-    let how = How::Windows { cut: Some(rng.next()), base: some_offset(&mut rng) };
-    Case { words, ring_length, fill: number, items, how }
+    stream
+}
+
+/// Serves a stream cut, and once more in one whole window: the text, the record and the ring are the same. Gives the text.
+pub fn cut_and_whole(trial: &mut Trial, start: &Start, stream: Vec<u8>, rng: &mut Rng) -> Result<Vec<u8>, Differs> {
+    let (stream, base) = (stream.into(), offset(rng));
+    let cut = serve(trial, start, &stream, base, Some(rng))?;
+    let (words, ring) = (trial.pair.model.words, trial.pair.model.ring.clone());
+    let whole = serve(trial, start, &stream, base, None)?;
+    let what = if cut != whole {
+        "text"
+    } else if words != trial.pair.model.words {
+        "record"
+    } else if ring != trial.pair.model.ring {
+        "ring"
+    } else {
+        return Ok(cut);
+    };
+    let what = format!("the {what} of the cut stream is not that of the whole one");
+    Err(trial.tell(Difference::new(what, NOT_ASKED, hex(&stream))))
+}
+
+/// Serves a stream in windows: cut at random places, or whole. Gives the text.
+pub fn serve(
+    trial: &mut Trial,
+    start: &Start,
+    stream: &Rc<[u8]>,
+    base: u64,
+    mut cut: Option<&mut Rng>,
+) -> Result<Vec<u8>, Differs> {
+    // Room for all lines: 64 bytes for each record, and two for each byte that the input or the ring brings.
+    let room_for_all = (64 * (stream.len() / 4 + 1) + 2 * stream.len() + 2 * start.ring_length + 1280).min(LINES_ROOM);
+    let (step_most, wide) = match &mut cut {
+        Some(rng) => (rng.pick(&[1, 3, 8, 30, 300, 3000, 30_000]), rng.chance(50)),
+        None => (0, true),
+    };
+    let (mut text, mut from, mut seen) = (Vec::new(), 0, 0);
+    trial.begin(start);
+    for _ in 0..4 * stream.len() + 1000 {
+        let (last, room) = match &mut cut {
+            Some(rng) => {
+                if seen < stream.len() && !rng.chance(10) {
+                    seen = (seen + rng.between(1, step_most)).min(stream.len());
+                }
+                (seen == stream.len() && rng.chance(75), some_room(rng, if wide { 65_536 } else { 640 }))
+            }
+            None => {
+                seen = stream.len();
+                (true, room_for_all)
+            }
+        };
+        let input = Input { stream: Rc::clone(stream), from, length: seen - from };
+        let came = trial.call(Call::serve(input, base.wrapping_add(from as u64), last, room))?;
+        text.extend_from_slice(trial.pair.model.text());
+        from += came.read;
+        if came.ended == 1 || (last && from == stream.len()) {
+            trial.call(Call::plain(Kind::Ask))?;
+            trial.end()?;
+            return Ok(text);
+        }
+    }
+    Err(trial.tell(Difference::new("the windows come to no end", NOT_ASKED, hex(stream))))
+}
+
+/// Lines of a usual room, and of rooms around a line and two.
+pub fn some_room(rng: &mut Rng, usual: usize) -> usize {
+    match rng.below(20) {
+        0 => 0,
+        1 => 639,
+        2 => rng.below(640),
+        3..6 => 641,
+        6..8 => 1280,
+        8 => 1279,
+        9 => rng.between(640, 4000),
+        _ => usual,
+    }
 }

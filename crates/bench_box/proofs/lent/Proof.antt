@@ -6,7 +6,7 @@ use Rattle.bench_box.proofs.lent.Statement.{statement}
 use Rattle.bench_box.proofs.lent.Tie as tie
 use Rattle.bench_box.proofs.lent.Reads as reads
 use Rattle.bench_box.proofs.lent.Lts as lts
-use Rattle.state.proofs.is_sound.Reads as is-sound-reads
+use Rattle.sound.proofs.is_sound.Reads as is-sound-reads
 use Rattle.stored.proofs.load.Reads as load-reads
 
 load-requires : tie.Need-load-requires

@@ -9,8 +9,8 @@ use Rattle.bench_box.proofs.perform.Reads as reads
 use Rattle.bench_box.proofs.perform.Lts as lts
 use Rattle.bench_box.proofs.answered.Reads as answered-reads
 use Rattle.bench_box.proofs.stayed.Reads as stayed-reads
-use Rattle.records.proofs.read.payload.Reads as payload-reads
-use Rattle.records.proofs.read.read.Reads as read-reads
+use Rattle.desk_records.proofs.read.payload.Reads as payload-reads
+use Rattle.desk_records.proofs.read.read.Reads as read-reads
 use Rattle.requests.proofs.given.Reads as given-reads
 use Rattle.requests.proofs.request.Reads as request-reads
 use Rattle.stream.proofs.answer.Reads as answer-reads

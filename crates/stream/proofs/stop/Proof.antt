@@ -1,7 +1,7 @@
 -- A cut record waits where more input may come; any other is told as bad.
 use Prim.Native.Nat.{_+_}
 use mathlib.Core.Path.{refl}
-use Rattle.records.specs.Reading.{cutAt}
+use Rattle.desk_records.specs.Reading.{cutAt}
 use Rattle.stream.specs.Desk.{badText}
 use Rattle.stream.proofs.Serving.{stop-waits, stop-bad}
 use borrow.Author.Needs.{needs}
@@ -9,7 +9,7 @@ use Rattle.stream.proofs.stop.Statement.{statement}
 use Rattle.stream.proofs.stop.Tie as tie
 use Rattle.stream.proofs.stop.Reads as reads
 use Rattle.stream.proofs.stop.Lts as lts
-use Rattle.records.proofs.read.is_cut.Reads as is-cut-reads
+use Rattle.desk_records.proofs.read.is_cut.Reads as is-cut-reads
 use Rattle.std.proofs.num.wrapping_add_u64.Reads as wrapping-add-u64-reads
 use Rattle.stream.proofs.put_bad.Reads as put-bad-reads
 

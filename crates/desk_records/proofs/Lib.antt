@@ -1,0 +1,10 @@
+pub mod Admits
+pub mod Fronts
+pub mod Heard
+pub mod Numbers
+pub mod OneRecord
+pub mod RoundTrip
+pub mod Settled
+pub mod Stable
+pub mod Stands
+pub mod Writes

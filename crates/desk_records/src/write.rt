@@ -1,0 +1,57 @@
+// Writing into the front of a lent buffer.
+use crate::LENGTH_AT;
+use crate::Written;
+use answers::Why;
+use desk_kinds::table;
+ghost use mathlib.Core.Path.{_≡_};
+ghost use Prim.Native.Nat.{_+_, _≤_};
+ghost use lib.ListN.{length};
+ghost use Rattle.text.specs.Put.{Puts};
+ghost use Rattle.desk_records.specs.Reading.{lengthWidth};
+ghost use Rattle.desk_records.specs.Writing.{inBytes, recordWith, recordOf, writing, frontFilled};
+
+fn put_number(out: &mut [u8], at: usize, width: usize, n: usize) -> usize
+    requires { ⌜ (1 ≤ width) × (width ≤ 2) ⌝ }
+    ensures { λ r. ⌜ Puts (now (out .entry)) at (inBytes width n) r (now (out .exit)) ⌝ }
+{
+    if width == 1 {
+        return text::put_byte(out, at, (n % 256) as u8);
+    }
+    let next = text::put_byte(out, at, (n / 256 % 256) as u8);
+    text::put_byte(out, next, (n % 256) as u8)
+}
+
+fn put_record(out: &mut [u8], mark: u8, width: usize, kind: u8, body: &[u8]) -> usize
+    requires { ⌜ (1 ≤ width) × (width ≤ 2) ⌝ }
+    ensures { λ r. ⌜ Puts (now (out .entry)) 0 (recordWith mark width kind (now (body .entry))) r (now (out .exit)) ⌝ }
+{
+    let a = text::put_byte(out, 0, crate::FIRST_MARK);
+    let b = text::put_byte(out, a, mark);
+    let c = text::put_byte(out, b, kind);
+    let d = put_number(out, c, width, body.len());
+    text::put_bytes(out, d, body)
+}
+
+fn write_with(out: &mut [u8], mark: u8, width: usize, kind: u8, body: &[u8]) -> Written
+    requires { ⌜ (1 ≤ width) × (width ≤ 2) ⌝ }
+    ensures answer { λ r. ⌜ r ≡ writing width kind (now (body .entry)) (length (now (out .entry))) ⌝ }
+    ensures buffer { λ r. ⌜ now (out .exit) ≡ frontFilled r (recordWith mark width kind (now (body .entry))) (now (out .entry)) ⌝ }
+{
+    let found = table::limits(kind);
+    let n = body.len();
+    if !table::admits(found, n) {
+        return Written::Refused(Why::Unlisted);
+    }
+    if out.len() < LENGTH_AT + width + n {
+        return Written::Refused(Why::NoRoom);
+    }
+    Written::Length(put_record(out, mark, width, kind, body))
+}
+
+// A record of a kind with a payload. The buffer stays as it was where the answer is a refusal.
+pub fn write(out: &mut [u8], kind: u8, body: &[u8]) -> Written
+    ensures answer { λ r. ⌜ r ≡ writing lengthWidth kind (now (body .entry)) (length (now (out .entry))) ⌝ }
+    ensures buffer { λ r. ⌜ now (out .exit) ≡ frontFilled r (recordOf kind (now (body .entry))) (now (out .entry)) ⌝ }
+{
+    write_with(out, crate::MARK, crate::WIDTH, kind, body)
+}
