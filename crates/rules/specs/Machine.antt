@@ -66,6 +66,7 @@ scanRefusals GetState r = []
 scanRefusals GetSideInformation r = []
 
 unfoldable pub feederRefusals : FeederCall → Record → List Line
+-- 501 and 711 are tested before 713, which asks the tray alone
 feederRefusals (Load j) r =
     refuse n712 (notOurs j r)
     ∷ refuse n501 (gives n501 (fedAt Input.Load (r .feeder)))

@@ -10,8 +10,10 @@ use Rattle.rules.specs.declared.Feed.{Feed}
 use Rattle.rules.specs.declared.Feed.the-variants.{Unloaded, Loaded, Busy, Erred as Stuck}
 use Rattle.rules.specs.declared.Failure.the-variants.{None, Jammed, Timeout}
 use Rattle.rules.specs.declared.Feeder.{Feeder}
+use Rattle.rules.specs.declared.Input.{Input}
+use Rattle.rules.specs.declared.Fed.{Fed}
 use Rattle.rules.specs.declared.Record.{Record}
-use Rattle.rules.specs.Feeder.{stands, fails, trayAt, pathAt}
+use Rattle.rules.specs.Feeder.{stands, fails, trayAt, pathAt, fed}
 use Rattle.rules.specs.Moves.{withScanner, withJob, withSide, withSettings, withFeeder, withRing, standing, quietAt, stopAt, countAt, emptied, heard}
 use Rattle.rules.specs.Moves.{announced, begun, released, ended, timedOut, given, readied, started, stopped, numbered, faulted, waited, moved, filled}
 use Rattle.rules.specs.Moves.{finished, caught, pathed, ticked, name}
@@ -990,6 +992,44 @@ walks =
     ∷ that "where it does not hold it is passed" (walked (leaving n713 false (odd Pending Stuck) ∷ refuse n603 true ∷ []))
     (out 603 nothing (box (scanner Idle Timeout) (job 0 41 77 0 0) (side 1 0 90) (settings 1 0) (feed Loaded Jammed 1 0) (ring 3 0)) five nine) refl
     ∷ that "none holds: accepted" (walked (leaving n713 false (odd Pending Stuck) ∷ refuse n603 false ∷ [])) elsewhere refl
+    ∷ []
+
+-- ---- the feeder's rule, entry by entry: state, input, tray and path sensor; the next state and the number
+abbrev pub entry : Feed → ℕ → Fed
+entry x n = record { next = x; number = n }
+
+pub feederRule : List (Case Fed)
+unfolding final
+feederRule =
+    that "Load from Unloaded" (fed 0 Unloaded Input.Load 1 0) (entry Loaded 0) refl
+    ∷ that "Load from Loaded" (fed 0 Loaded Input.Load 1 0) (entry Loaded 0) refl
+    ∷ that "Load from Unloaded, tray empty" (fed 0 Unloaded Input.Load 0 0) (entry Unloaded 713) refl
+    ∷ that "Load from Loaded, tray empty" (fed 0 Loaded Input.Load 0 0) (entry Unloaded 713) refl
+    ∷ that "Load, Busy" (fed 0 Busy Input.Load 1 0) (entry Busy 501) refl
+    ∷ that "Load, Busy, tray empty" (fed 0 Busy Input.Load 0 0) (entry Busy 501) refl
+    ∷ that "Load, Erred" (fed 0 Stuck Input.Load 1 0) (entry Stuck 711) refl
+    ∷ that "Load, Erred, tray empty" (fed 0 Stuck Input.Load 0 1) (entry Stuck 711) refl
+    ∷ that "Eject one from Unloaded" (fed 0 Unloaded Input.EjectOne 1 0) (entry Unloaded 0) refl
+    ∷ that "Eject one from Loaded" (fed 0 Loaded Input.EjectOne 1 0) (entry Unloaded 0) refl
+    ∷ that "Eject one, Busy" (fed 0 Busy Input.EjectOne 1 0) (entry Busy 501) refl
+    ∷ that "Eject one, Erred" (fed 0 Stuck Input.EjectOne 1 0) (entry Stuck 711) refl
+    ∷ that "Eject all from Unloaded" (fed 0 Unloaded Input.EjectAll 1 0) (entry Unloaded 0) refl
+    ∷ that "Eject all from Loaded" (fed 0 Loaded Input.EjectAll 1 0) (entry Unloaded 0) refl
+    ∷ that "Eject all, Busy" (fed 0 Busy Input.EjectAll 1 0) (entry Busy 501) refl
+    ∷ that "Eject all, Erred" (fed 0 Stuck Input.EjectAll 1 0) (entry Stuck 711) refl
+    ∷ that "Reset in Unloaded" (fed 0 Unloaded Input.Reset 1 0) (entry Unloaded 0) refl
+    ∷ that "Reset in Loaded" (fed 0 Loaded Input.Reset 1 0) (entry Loaded 0) refl
+    ∷ that "Reset, Busy" (fed 0 Busy Input.Reset 1 0) (entry Busy 501) refl
+    ∷ that "Reset in Erred, path 0" (fed 0 Stuck Input.Reset 1 0) (entry Unloaded 0) refl
+    ∷ that "Reset in Erred, path 1" (fed 0 Stuck Input.Reset 0 1) (entry Stuck 0) refl
+    ∷ that "path 1 in Unloaded" (fed 0 Unloaded Input.Jam 1 0) (entry Stuck 0) refl
+    ∷ that "path 1 in Loaded" (fed 0 Loaded Input.Jam 1 0) (entry Stuck 0) refl
+    ∷ that "path 1 in Busy" (fed 0 Busy Input.Jam 1 0) (entry Stuck 0) refl
+    ∷ that "path 1 in Erred" (fed 0 Stuck Input.Jam 1 0) (entry Stuck 0) refl
+    ∷ that "side ended in Unloaded" (fed 0 Unloaded Input.SideEnd 1 0) (entry Unloaded 0) refl
+    ∷ that "side ended in Loaded" (fed 0 Loaded Input.SideEnd 1 0) (entry Loaded 0) refl
+    ∷ that "side ended in Busy" (fed 0 Busy Input.SideEnd 1 0) (entry Unloaded 0) refl
+    ∷ that "side ended in Erred" (fed 0 Stuck Input.SideEnd 1 0) (entry Stuck 0) refl
     ∷ []
 
 pub feederMoves : List (Case Feeder)

@@ -66,7 +66,7 @@ pub struct Feeder {
     pub path: u8,
 }
 
-// What moves the feeder.
+// What moves the feeder: Load, Eject one, Eject all, Reset, path 1, side ended.
 pub enum Input {
     Load,
     EjectOne,

@@ -9,7 +9,7 @@ use std::fs;
 use std::path::Path;
 
 /// The files of definitions, each after those that it uses. All other files of specs/ are the table's.
-pub const FILES: [&str; 8] = ["Record", "Ring", "Feeder", "Moves", "Calls", "Machine", "Watch", "Promises"];
+pub const FILES: [&str; 8] = ["Record", "Ring", "Calls", "Feeder", "Moves", "Machine", "Watch", "Promises"];
 
 /// What the rules use of the libraries. A single small letter is any type.
 const LIBRARY: [(&str, &str); 21] = [
