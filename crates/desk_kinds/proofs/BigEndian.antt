@@ -1,7 +1,7 @@
 -- Big-endian numbers, once for every width: a number is that of its first bytes, and then that of the rest.
 use Prim.Native.Nat.{ℕ, zero, suc, _+_, _*_, _^_, _<_, _≤_}
 use mathlib.Core.Path.{_≡_, refl, sym, ap, _∙_}
-use mathlib.Core.List.{List, []}
+use mathlib.Core.List.{List}
 use native.Mathlib.Nat.{zero-mul, zero-add, suc-add, add-mul, mul-assoc, add-assoc}
 use native.Mathlib.Omega.{arith}
 use lib.ListN.{length, getD, drop, List·getD-eq-default, drop-of-length-le}
