@@ -15,16 +15,16 @@ use Rattle.rules.proofs.Theorems.{refused-keeps}
 use Rattle.answers.specs.Told.{stateOf}
 use Rattle.answers.specs.declared.Request.{Request}
 use Rattle.answers.specs.Asked.{asked}
-use Rattle.text.specs.Digits.{mostDigits}
-use Rattle.text.specs.Put.{fitting}
-use Rattle.text.proofs.Putting.{length-digits}
-use Rattle.line.specs.Line.{lineFor, lineRoom}
-use Rattle.line.proofs.Bound.{step-bound}
-use Rattle.stream.specs.Desk.{replyRoom, badLine}
+use Rattle.desk_text.specs.Digits.{mostDigits}
+use Rattle.desk_text.specs.Put.{fitting}
+use Rattle.desk_text.proofs.Putting.{length-digits}
+use Rattle.desk_line.specs.Line.{lineFor, lineRoom}
+use Rattle.desk_line.proofs.Bound.{step-bound}
+use Rattle.desk_stream.specs.Desk.{replyRoom, badLine}
 use Rattle.answers.proofs.Lending.{lent-within}
-use Rattle.stored.specs.declared.Loading.{Loading}
-use Rattle.stored.specs.Stored.{kept, loading}
-use Rattle.stored.proofs.Back.{loaded-kept, loads-kept}
+use Rattle.host_record.specs.declared.Loading.{Loading}
+use Rattle.host_record.specs.Stored.{kept, loading}
+use Rattle.host_record.proofs.Back.{loaded-kept, loads-kept}
 use Rattle.bench_box.specs.Host.{tickNumber, tickWords}
 
 -- a second that is refused leaves the numbers as they were
@@ -37,8 +37,8 @@ tick-keeps ws n e f = go (loading ws) refl f
     go Loading.Malformed h g = refl
 
 -- the numbers that a call leaves are the record that it left
-pub left-again : (ws : List ℕ) (r : Record) → ws ≡ kept r → Rattle.stored.specs.Stored.fitting ws ≡ true → loading ws ≡ Loading.Loads r
-left-again ws r e f = ap loading e ∙ loads-kept r (ap Rattle.stored.specs.Stored.fitting (sym e) ∙ f)
+pub left-again : (ws : List ℕ) (r : Record) → ws ≡ kept r → Rattle.host_record.specs.Stored.fitting ws ≡ true → loading ws ≡ Loading.Loads r
+left-again ws r e f = ap loading e ∙ loads-kept r (ap Rattle.host_record.specs.Stored.fitting (sym e) ∙ f)
 
 -- where a record is answered its line has room for all of it, with any reply that the desk would lend; so has a bad line
 pub line-whole : (k : ℕ) (s : State) (q : Request) (given reply lines : List ℕ) → length reply ≤ replyRoom → lineRoom ≤ length lines

@@ -15,21 +15,21 @@ use Rattle.rules.proofs.Guards.{stop, pass}
 use Rattle.answers.specs.Told.{stateOf}
 use Rattle.answers.specs.declared.Request.{Request}
 use Rattle.answers.specs.Asked.{asked, replied}
-use Rattle.text.specs.Put.{Puts}
-use Rattle.text.proofs.Putting.{put-none, moved}
-use Rattle.line.specs.Line.{lineOf, lineFor, lineRoom}
+use Rattle.desk_text.specs.Put.{Puts}
+use Rattle.desk_text.proofs.Putting.{put-none, moved}
+use Rattle.desk_line.specs.Line.{lineOf, lineFor, lineRoom}
 use Rattle.desk_records.specs.declared.Hearing.{Hearing}
 use Rattle.desk_records.specs.Hearing.{hearAt}
 use Rattle.desk_records.specs.Reading.{headOf, lengthWidth, partOf}
 use Rattle.desk_records.proofs.Admits.{read-places}
 use Rattle.desk_records.proofs.Heard.{heard-record}
 use Rattle.desk_kinds.specs.Kinds.{givenOf}
-use Rattle.stream.specs.Desk.{asks, wrong, heard, callWith, badLine}
-use Rattle.stream.specs.Window.{Progress, Holds}
-use Rattle.stream.proofs.Hearing.{heard-asking}
-use Rattle.stream.proofs.Replies.{Bare, bare, reply-alike}
-use Rattle.stored.specs.declared.Loading.{Loading}
-use Rattle.stored.specs.Stored.{kept, loading}
+use Rattle.desk_stream.specs.Desk.{asks, wrong, heard, callWith, badLine}
+use Rattle.desk_stream.specs.Window.{Progress, Holds}
+use Rattle.desk_stream.proofs.Hearing.{heard-asking}
+use Rattle.desk_stream.proofs.Replies.{Bare, bare, reply-alike}
+use Rattle.host_record.specs.declared.Loading.{Loading}
+use Rattle.host_record.specs.Stored.{kept, loading}
 use Rattle.bench_box.specs.declared.One.{One}
 use Rattle.bench_box.specs.Held.{came}
 use Rattle.bench_box.specs.Host.{lentBox, soundIn, Came, flag, windowed, saying, idly, oneOf, onceIn}

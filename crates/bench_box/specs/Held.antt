@@ -1,7 +1,7 @@
 -- What came of one record, as the code holds it. No contract of an exported function cites this.
 use Prim.Native.Nat.{ℕ}
 use mathlib.Core.List.{List, [], _∷_}
-use Rattle.stored.specs.Stored.{kept}
+use Rattle.host_record.specs.Stored.{kept}
 use Rattle.bench_box.specs.declared.One.{One}
 use Rattle.bench_box.specs.Host.{Came}
 

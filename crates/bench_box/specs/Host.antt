@@ -10,13 +10,13 @@ use Rattle.rules.specs.Calls.{n604, numberOf, Outcome, nothing}
 use Rattle.rules.specs.Machine.{step}
 use Rattle.answers.specs.Told.{stateOf}
 use Rattle.answers.specs.Asked.{asked, replied}
-use Rattle.text.specs.Put.{fitting, over}
-use Rattle.line.specs.Line.{lineFor, lineRoom}
-use Rattle.stream.specs.Desk.{Heard, asks, wrong, heard, badLine}
-use Rattle.stream.specs.Window.{Progress, begun, served}
-use Rattle.stored.specs.declared.Loading.{Loading}
-use Rattle.stored.specs.Stored.{kept, numberAt, loading}
-use Rattle.entry.specs.Second.{secondOf}
+use Rattle.desk_text.specs.Put.{fitting, over}
+use Rattle.desk_line.specs.Line.{lineFor, lineRoom}
+use Rattle.desk_stream.specs.Desk.{Heard, asks, wrong, heard, badLine}
+use Rattle.desk_stream.specs.Window.{Progress, begun, served}
+use Rattle.host_record.specs.declared.Loading.{Loading}
+use Rattle.host_record.specs.Stored.{kept, numberAt, loading}
+use Rattle.host_tick.specs.Second.{secondOf}
 
 -- ---- the record of some numbers, if it is sound with a ring of n bytes
 abbrev pub soundIn : ℕ → Loading → Loading

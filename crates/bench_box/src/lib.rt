@@ -1,14 +1,14 @@
 // The box for a host in C: include/bench_box.h says it in C's words. A box is the record as eighteen numbers; whatever they are,
 // each function answers.
 use desk_records::Hearing;
+use desk_stream::Turn;
+use host_record::Loading;
 use rules::Record;
-use stored::Loading;
-use stream::Turn;
 ghost use mathlib.Core.Path.{_≡_};
 ghost use mathlib.Core.Bool.{true};
 ghost use mathlib.Core.List.{[], _∷_};
 ghost use Rattle.rules.specs.Record.{fresh};
-ghost use Rattle.stored.specs.Stored.{kept, fitting, loading};
+ghost use Rattle.host_record.specs.Stored.{kept, fitting, loading};
 ghost use Rattle.bench_box.specs.Host.{lentBox, tickNumber, tickWords, told, flag, onceIn, serving, performing};
 ghost use Rattle.bench_box.specs.Held.{came};
 
@@ -50,7 +50,7 @@ fn tell(out: &mut [usize; 3], p: Progress)
 fn lent(words: &[u64; 18], length: usize) -> Loading
     ensures { λ l. ⌜ l ≡ lentBox (now (words .entry)) length ⌝ }
 {
-    let loading = stored::load(words);
+    let loading = host_record::load(words);
     let Loading::Loads(r) = loading else {
         return Loading::Malformed;
     };
@@ -113,7 +113,7 @@ fn perform(
     ensures { λ o. ⌜ came o (now (ring .exit)) (now (reply .exit)) (now (out .exit))
         ≡ onceIn r (now (ring .entry)) (now (reply .entry)) (now (s .entry)) offset (now (out .entry)) ⌝ }
 {
-    if !stream::has_room(0, out.len()) {
+    if !desk_stream::has_room(0, out.len()) {
         return stayed(r, 0, 0);
     }
     let hearing = desk_records::read::hear(s, 0);
@@ -125,12 +125,12 @@ fn perform(
         next: place,
     } = hearing
     else {
-        let end = stream::put_bad(out, 0, offset);
+        let end = desk_stream::put_bad(out, 0, offset);
         return stayed(r, end, 1);
     };
     let body = desk_records::read::payload(s, start, len);
     let given = desk_kinds::payload::given(kind, body);
-    let turn = stream::answer(r, ring, reply, kind, request, given, out, 0);
+    let turn = desk_stream::answer(r, ring, reply, kind, request, given, out, 0);
     answered(turn, place)
 }
 
@@ -140,7 +140,7 @@ pub extern "C" fn bench_box_fresh(words: &mut [u64; 18])
     ensures { λ _. ⌜ now (words .exit) ≡ kept fresh ⌝ }
     ensures { λ _. ⌜ fitting (now (words .exit)) ≡ true ⌝ }
 {
-    stored::keep(words, Record::fresh());
+    host_record::keep(words, Record::fresh());
 }
 
 #[no_mangle]
@@ -149,13 +149,13 @@ pub extern "C" fn bench_box_tick(words: &mut [u64; 18], length: usize) -> u16
     ensures { λ _. ⌜ now (words .exit) ≡ tickWords length (now (words .entry)) (loading (now (words .entry))) ⌝ }
     ensures { λ _. ⌜ (fitting (now (words .entry)) ≡ true → fitting (now (words .exit)) ≡ true) ⌝ }
 {
-    let loading = stored::load(words);
+    let loading = host_record::load(words);
     let Loading::Loads(r) = loading else {
         return UNSOUND;
     };
-    let after = entry::second(r, length);
+    let after = host_tick::second(r, length);
     let next = after.next;
-    stored::keep(words, next);
+    host_record::keep(words, next);
     after.number
 }
 
@@ -199,9 +199,9 @@ pub extern "C" fn bench_box_serve(
         tell(progress, nothing_done());
         return UNSOUND;
     };
-    let served = stream::serve(r, ring, input, offset, last, lines);
+    let served = desk_stream::serve(r, ring, input, offset, last, lines);
     let next = served.next;
-    stored::keep(words, next);
+    host_record::keep(words, next);
     let came = Progress {
         read: served.at,
         written: served.filled,
@@ -239,7 +239,7 @@ pub extern "C" fn bench_box_perform(
     };
     let one = perform(r, ring, reply, input, offset, line);
     let next = one.next;
-    stored::keep(words, next);
+    host_record::keep(words, next);
     let came = one.progress;
     tell(progress, came);
     one.number

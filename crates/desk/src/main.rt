@@ -1,13 +1,13 @@
-// The desk program: records from standard input, a line each on standard output. The work is `stream::serve`; what stands here
+// The desk program: records from standard input, a line each on standard output. The work is `desk_stream::serve`; what stands here
 // reads, calls and writes.
 ghost use mathlib.Core.Path.{_≡_};
 ghost use Prim.Native.Nat.{_+_, _≤_};
 ghost use lib.ListN.{length};
+use desk_stream::Served;
 use libc::EPIPE;
 use libc::STDIN_FILENO;
 use libc::STDOUT_FILENO;
 use rules::Record;
-use stream::Served;
 
 // Where the program stands: the record; `held` bytes at the front of the window, of which those before `at` are answered, and the
 // offset in the input of the byte at `at`; whether the input has ended, whether the window wants more of it, whether all is said.
@@ -59,7 +59,7 @@ fn refill(buf: &mut [u8], f: Flow) -> Flow
     ensures { λ r. ⌜ r .held ≤ length (now (buf .exit)) ⌝ }
 {
     let next = f.next;
-    let kept = stream::keep(buf, f.at, f.held);
+    let kept = desk_stream::keep(buf, f.at, f.held);
     let got = read_behind(buf, kept);
     Flow {
         next,
@@ -109,9 +109,9 @@ fn answer(window: &[u8], ring: &mut [u8], out: &mut [u8], f: Flow) -> Flow
     ensures { λ r. ⌜ r .held ≡ f .held ⌝ }
 {
     let next = f.next;
-    let served = stream::serve(next, ring, window, f.base, f.last, out);
+    let served = desk_stream::serve(next, ring, window, f.base, f.last, out);
     let is_written = say(out, served.filled);
-    let is_dry = stream::has_room(served.filled, out.len());
+    let is_dry = desk_stream::has_room(served.filled, out.len());
     moved(f, served, is_written, is_dry)
 }
 

@@ -9,8 +9,8 @@ use lib.Dec.{leb}
 use lib.ListN.{length, length-append}
 use borrow.Author.Tests.{leb-true, le-leb}
 use Rattle.answers.specs.declared.Why.{Why}
-use Rattle.text.specs.Put.{Puts, over}
-use Rattle.text.proofs.Putting.{then, moved, whole-next, whole-stands}
+use Rattle.desk_text.specs.Put.{Puts, over}
+use Rattle.desk_text.proofs.Putting.{then, moved, whole-next, whole-stands}
 use Rattle.desk_kinds.specs.Kinds.{limitsOf, within}
 use Rattle.desk_records.specs.declared.Written.{Written}
 use Rattle.desk_records.specs.Reading.{headOf}

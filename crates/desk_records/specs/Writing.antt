@@ -7,7 +7,7 @@ use lib.Dec.{leb}
 use Rattle.rules.specs.Calls.{numberOf}
 use Rattle.answers.specs.declared.Why.{Why}
 use Rattle.answers.specs.Told.{reasonOf}
-use Rattle.text.specs.Put.{over}
+use Rattle.desk_text.specs.Put.{over}
 use Rattle.desk_kinds.specs.Kinds.{limitsOf, within}
 use Rattle.desk_records.specs.declared.Written.{Written}
 use Rattle.desk_records.specs.Reading.{firstMark, secondMark, lengthWidth, headOf}

@@ -6,7 +6,7 @@ use desk_kinds::table;
 ghost use mathlib.Core.Path.{_≡_};
 ghost use Prim.Native.Nat.{_+_, _≤_};
 ghost use lib.ListN.{length};
-ghost use Rattle.text.specs.Put.{Puts};
+ghost use Rattle.desk_text.specs.Put.{Puts};
 ghost use Rattle.desk_records.specs.Reading.{lengthWidth};
 ghost use Rattle.desk_records.specs.Writing.{inBytes, recordWith, recordOf, writing, frontFilled};
 
@@ -15,21 +15,21 @@ fn put_number(out: &mut [u8], at: usize, width: usize, n: usize) -> usize
     ensures { λ r. ⌜ Puts (now (out .entry)) at (inBytes width n) r (now (out .exit)) ⌝ }
 {
     if width == 1 {
-        return text::put_byte(out, at, (n % 256) as u8);
+        return desk_text::put_byte(out, at, (n % 256) as u8);
     }
-    let next = text::put_byte(out, at, (n / 256 % 256) as u8);
-    text::put_byte(out, next, (n % 256) as u8)
+    let next = desk_text::put_byte(out, at, (n / 256 % 256) as u8);
+    desk_text::put_byte(out, next, (n % 256) as u8)
 }
 
 fn put_record(out: &mut [u8], mark: u8, width: usize, kind: u8, body: &[u8]) -> usize
     requires { ⌜ (1 ≤ width) × (width ≤ 2) ⌝ }
     ensures { λ r. ⌜ Puts (now (out .entry)) 0 (recordWith mark width kind (now (body .entry))) r (now (out .exit)) ⌝ }
 {
-    let a = text::put_byte(out, 0, crate::FIRST_MARK);
-    let b = text::put_byte(out, a, mark);
-    let c = text::put_byte(out, b, kind);
+    let a = desk_text::put_byte(out, 0, crate::FIRST_MARK);
+    let b = desk_text::put_byte(out, a, mark);
+    let c = desk_text::put_byte(out, b, kind);
     let d = put_number(out, c, width, body.len());
-    text::put_bytes(out, d, body)
+    desk_text::put_bytes(out, d, body)
 }
 
 fn write_with(out: &mut [u8], mark: u8, width: usize, kind: u8, body: &[u8]) -> Written

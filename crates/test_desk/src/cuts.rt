@@ -30,14 +30,14 @@ fn turn(f: Run, ring: &mut [u8], s: &[u8], step: usize, out: &mut [u8], to: &mut
     let next = f.next;
     let last = f.come > s.len();
     let window = part(s, f.at, if last { s.len() } else { f.come });
-    let served = stream::serve(next, ring, window, f.at as u64, last, out);
+    let served = desk_stream::serve(next, ring, window, f.at as u64, last, out);
     let next = served.next;
-    let is_dry = stream::has_room(served.filled, out.len());
+    let is_dry = desk_stream::has_room(served.filled, out.len());
     Run {
         next,
         at: std::num::wrapping_add_usize(f.at, served.at),
         come: grown(is_dry, f.come, step, s.len()),
-        said: text::put_bytes(to, f.said, part(out, 0, served.filled)),
+        said: desk_text::put_bytes(to, f.said, part(out, 0, served.filled)),
         over: served.ended | last & is_dry,
     }
 }

@@ -67,7 +67,7 @@ fn walk(s: &[u8]) -> Reach {
 // line that the walk tells: a bad line is the only one with a `b`.
 fn is_told(said: &[u8], right: &[u8], same: usize, w: Reach, is_bad: bool) -> bool {
     let mut line = [0u8; 32];
-    let end = stream::put_bad(&mut line, 0, w.at as u64);
+    let end = desk_stream::put_bad(&mut line, 0, w.at as u64);
     let first = behind(right, 0, same, b'\n');
     let all = behind(said, 0, w.records, b'\n');
     let is_same = check::same(part(said, 0, first), part(right, 0, first));
@@ -108,7 +108,7 @@ fn tried(r: Record, ring: &mut [u8], s: &[u8], right: &[u8], c: Spot, t: Tally) 
     let w = walk(s);
     let is_bad = w.at < s.len();
     let mut out = [0u8; 16384];
-    let served = stream::serve(r, ring, s, 0, true, &mut out);
+    let served = desk_stream::serve(r, ring, s, 0, true, &mut out);
     let is_reached = (served.at == w.at) & (served.ended == is_bad) & (before.at <= w.at);
     let said = part(&out, 0, served.filled);
     let mut all = t;

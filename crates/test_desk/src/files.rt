@@ -56,8 +56,8 @@ pub fn number(s: &[u8]) -> u64 {
 // A file's bytes, and their number; the buffer's length where there is no such file, or it does not fit.
 pub fn load(name: &[u8], kind: &[u8], buf: &mut [u8]) -> usize {
     let mut path = [0u8; 64];
-    let a = text::put_bytes(&mut path, 0, name);
-    let b = text::put_bytes(&mut path, a, kind);
+    let a = desk_text::put_bytes(&mut path, 0, name);
+    let b = desk_text::put_bytes(&mut path, a, kind);
     let fd = os::open_read(part(&path, 0, b));
     if fd < 0 {
         os::fail(part(&path, 0, b));

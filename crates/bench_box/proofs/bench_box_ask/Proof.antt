@@ -1,6 +1,6 @@
 -- By what is lent; then by the question.
 use Rattle.bench_box.specs.Host.{told, none}
-use Rattle.stored.specs.Stored.{numberAt}
+use Rattle.host_record.specs.Stored.{numberAt}
 use Rattle.rules.proofs.Guards.{lt-then, lt-else}
 use mathlib.Core.Path.{refl, sym, ap, _∙_}
 use borrow.Author.Needs.{needs}

@@ -1,6 +1,6 @@
 -- By what is lent; then as the record was performed.
 use Rattle.bench_box.specs.Host.{performedBy}
-use Rattle.stored.specs.declared.Loading.{Loading}
+use Rattle.host_record.specs.declared.Loading.{Loading}
 use mathlib.Core.Path.{sym, ap, _∙_}
 use borrow.Author.Needs.{needs}
 use Rattle.bench_box.proofs.bench_box_perform.Statement.{statement}
@@ -11,7 +11,7 @@ use Rattle.bench_box.proofs.lent.Reads as lent-reads
 use Rattle.bench_box.proofs.nothing_done.Reads as nothing-done-reads
 use Rattle.bench_box.proofs.perform.Reads as perform-reads
 use Rattle.bench_box.proofs.tell.Reads as tell-reads
-use Rattle.stored.proofs.keep.Reads as keep-reads
+use Rattle.host_record.proofs.keep.Reads as keep-reads
 
 lent-requires : tie.Need-lent-requires
 lent-requires c κs = search needs

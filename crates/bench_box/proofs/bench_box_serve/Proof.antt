@@ -1,7 +1,7 @@
 -- By what is lent; then as the window was served (`came-window`).
 use Rattle.bench_box.proofs.Hosting.{came-window}
 use Rattle.bench_box.specs.Host.{servedBy}
-use Rattle.stored.specs.declared.Loading.{Loading}
+use Rattle.host_record.specs.declared.Loading.{Loading}
 use mathlib.Core.List.{[], _∷_}
 use mathlib.Core.Path.{sym, ap, _∙_}
 use Prim.Native.Nat.{ℕ}
@@ -14,8 +14,8 @@ use Rattle.bench_box.proofs.flag.Reads as flag-reads
 use Rattle.bench_box.proofs.lent.Reads as lent-reads
 use Rattle.bench_box.proofs.nothing_done.Reads as nothing-done-reads
 use Rattle.bench_box.proofs.tell.Reads as tell-reads
-use Rattle.stored.proofs.keep.Reads as keep-reads
-use Rattle.stream.proofs.serve.Reads as serve-reads
+use Rattle.host_record.proofs.keep.Reads as keep-reads
+use Rattle.desk_stream.proofs.serve.Reads as serve-reads
 
 lent-requires : tie.Need-lent-requires
 lent-requires c κs = search needs

@@ -1,15 +1,15 @@
 -- By what was loaded; then the second's own equations.
 use Rattle.bench_box.specs.Host.{tickNumber, tickWords}
-use Rattle.stored.specs.Stored.{kept}
+use Rattle.host_record.specs.Stored.{kept}
 use mathlib.Core.Path.{sym, ap, _∙_}
 use borrow.Author.Needs.{needs}
 use Rattle.bench_box.proofs.bench_box_tick.Statement.{statement}
 use Rattle.bench_box.proofs.bench_box_tick.Tie as tie
 use Rattle.bench_box.proofs.bench_box_tick.Reads as reads
 use Rattle.bench_box.proofs.bench_box_tick.Lts as lts
-use Rattle.entry.proofs.second.Reads as second-reads
-use Rattle.stored.proofs.keep.Reads as keep-reads
-use Rattle.stored.proofs.load.Reads as load-reads
+use Rattle.host_tick.proofs.second.Reads as second-reads
+use Rattle.host_record.proofs.keep.Reads as keep-reads
+use Rattle.host_record.proofs.load.Reads as load-reads
 
 load-requires : tie.Need-load-requires
 load-requires c κs = search needs

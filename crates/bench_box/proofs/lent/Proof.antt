@@ -7,7 +7,7 @@ use Rattle.bench_box.proofs.lent.Tie as tie
 use Rattle.bench_box.proofs.lent.Reads as reads
 use Rattle.bench_box.proofs.lent.Lts as lts
 use Rattle.sound.proofs.is_sound.Reads as is-sound-reads
-use Rattle.stored.proofs.load.Reads as load-reads
+use Rattle.host_record.proofs.load.Reads as load-reads
 
 load-requires : tie.Need-load-requires
 load-requires c κs = search needs

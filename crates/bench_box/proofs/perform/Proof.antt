@@ -1,6 +1,6 @@
 -- Each way out is the definition's (`once-full`, `once-bad`, `once-answers`).
 use mathlib.Core.Path.{sym, _∙_}
-use Rattle.stream.proofs.Hearing.{heard-bad}
+use Rattle.desk_stream.proofs.Hearing.{heard-bad}
 use Rattle.bench_box.proofs.Hosting.{once-full, once-bad, once-answers, heard-given, read-size}
 use borrow.Author.Needs.{needs}
 use Rattle.bench_box.proofs.perform.Statement.{statement}

@@ -1,6 +1,6 @@
 -- One text behind the other (`Putting`).
 use borrow.Author.Needs.{needs}
-use Rattle.text.proofs.Putting.{then}
+use Rattle.desk_text.proofs.Putting.{then}
 use Rattle.desk_records.proofs.write.put_record.Statement.{statement}
 use Rattle.desk_records.proofs.write.put_record.Tie as tie
 

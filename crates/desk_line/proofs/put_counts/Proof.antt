@@ -1,0 +1,39 @@
+-- `line::put_counts`: one part behind the other.
+use borrow.Author.Needs.{needs}
+use Rattle.desk_text.proofs.Putting.{then}
+use Rattle.desk_line.proofs.put_counts.Statement.{statement}
+use Rattle.desk_line.proofs.put_counts.Tie as tie
+
+put-number-requires : tie.Need-put-number-requires
+put-number-requires c κs = search needs
+
+put-number-requires-2 : tie.Need-put-number-requires-2
+put-number-requires-2 c κs = search needs
+
+put-count-requires : tie.Need-put-count-requires
+put-count-requires c κs = search needs
+
+put-byte-requires : tie.Need-put-byte-requires
+put-byte-requires c κs = search needs
+
+same-length : tie.Need-same-length
+same-length c = search needs
+
+returns : tie.Need-returns
+returns c =
+    let space = c .before .before in
+    let count = space .before .before .before .before in
+    let side = count .before .before .before .before in
+    let job = side .before .before .before .before in
+    then (then (then (job .put-number .ensures) (side .put-number2 .ensures)) (count .put-count .ensures)) (space .put-byte .ensures)
+
+pub put-counts-spec : {M : Type 1} → statement M
+put-counts-spec =
+    tie.close
+    (tie.spec
+    put-number-requires
+    put-number-requires-2
+    put-count-requires
+    put-byte-requires
+    same-length
+    returns)

@@ -1,0 +1,119 @@
+// The desk's line for one answered record.
+mod extra;
+mod lent;
+
+use answers::Answer;
+use rules::Feed;
+use rules::Record;
+use rules::Scan;
+ghost use mathlib.Core.Path.{_≡_};
+ghost use mathlib.Core.List.{[], _∷_, _++_};
+ghost use Rattle.answers.specs.Told.{valuesTold};
+ghost use Rattle.desk_text.specs.Digits.{decimal, hexByte};
+ghost use Rattle.desk_text.specs.Put.{Puts};
+ghost use Rattle.desk_line.specs.Line.{scanLetter, feedLetter, countText, lineOf};
+
+fn scan_letter(s: Scan) -> u8
+    ensures { λ b. ⌜ b ≡ scanLetter s ⌝ }
+{
+    match s {
+        Scan::Idle => b'I',
+        Scan::Pending => b'P',
+        Scan::Scanning => b'S',
+        Scan::Finishing => b'F',
+        Scan::Erred => b'E',
+    }
+}
+
+fn feed_letter(f: Feed) -> u8
+    ensures { λ b. ⌜ b ≡ feedLetter f ⌝ }
+{
+    match f {
+        Feed::Unloaded => b'U',
+        Feed::Loaded => b'L',
+        Feed::Busy => b'B',
+        Feed::Erred => b'E',
+    }
+}
+
+// ---- columns, each with the space behind it
+fn put_letter(out: &mut [u8], at: usize, b: u8) -> usize
+    ensures { λ q. ⌜ Puts (now (out .entry)) at (b ∷ 32 ∷ []) q (now (out .exit)) ⌝ }
+{
+    let space = desk_text::put_byte(out, at, b);
+    desk_text::put_byte(out, space, b' ')
+}
+
+fn put_number(out: &mut [u8], at: usize, n: u64) -> usize
+    ensures { λ q. ⌜ Puts (now (out .entry)) at (decimal n ++ 32 ∷ []) q (now (out .exit)) ⌝ }
+{
+    let space = desk_text::put_decimal(out, at, n);
+    desk_text::put_byte(out, space, b' ')
+}
+
+fn put_kind(out: &mut [u8], at: usize, kind: u8) -> usize
+    ensures { λ q. ⌜ Puts (now (out .entry)) at (hexByte kind ++ 32 ∷ []) q (now (out .exit)) ⌝ }
+{
+    let space = desk_text::put_hex(out, at, kind);
+    desk_text::put_byte(out, space, b' ')
+}
+
+// SideCount: −1 is all ones.
+fn put_count(out: &mut [u8], at: usize, count: u32) -> usize
+    ensures { λ q. ⌜ Puts (now (out .entry)) at (countText count) q (now (out .exit)) ⌝ }
+{
+    if count < 2147483648 {
+        return desk_text::put_decimal(out, at, count as u64);
+    }
+    let digits = desk_text::put_byte(out, at, b'-');
+    desk_text::put_decimal(out, digits, 4294967296 - count as u64)
+}
+
+// ---- the line
+fn put_states(out: &mut [u8], at: usize, s: Scan, f: Feed) -> usize
+    ensures { λ q. ⌜ Puts (now (out .entry)) at (scanLetter s ∷ 32 ∷ feedLetter f ∷ 32 ∷ []) q (now (out .exit)) ⌝ }
+{
+    let second = put_letter(out, at, scan_letter(s));
+    put_letter(out, second, feed_letter(f))
+}
+
+fn put_head(out: &mut [u8], at: usize, kind: u8, number: u16, s: Scan, f: Feed) -> usize
+    ensures { λ q. ⌜ Puts (now (out .entry)) at
+        ((hexByte kind ++ 32 ∷ []) ++ (decimal number ++ 32 ∷ []) ++ scanLetter s ∷ 32 ∷ feedLetter f ∷ 32 ∷ []) q (now (out .exit)) ⌝ }
+{
+    let second = put_kind(out, at, kind);
+    let third = put_number(out, second, number as u64);
+    put_states(out, third, s, f)
+}
+
+fn put_counts(out: &mut [u8], at: usize, job: u32, side: u16, count: u32) -> usize
+    ensures { λ q. ⌜ Puts (now (out .entry)) at
+        ((decimal job ++ 32 ∷ []) ++ (decimal side ++ 32 ∷ []) ++ countText count ++ 32 ∷ []) q (now (out .exit)) ⌝ }
+{
+    let second = put_number(out, at, job as u64);
+    let third = put_number(out, second, side as u64);
+    let space = put_count(out, third, count);
+    desk_text::put_byte(out, space, b' ')
+}
+
+// The line of an answer with that number, and of the record that it leaves.
+pub fn put_line(
+    out: &mut [u8],
+    at: usize,
+    kind: u8,
+    number: u16,
+    r: Record,
+    answer: Answer,
+    reply: &[u8],
+) -> usize
+    ensures { λ q. ⌜ Puts (now (out .entry)) at (lineOf kind number (valuesTold r (now (reply .entry)) answer) r) q (now (out .exit)) ⌝ }
+{
+    let scanner = r.scanner;
+    let feeder = r.feeder;
+    let s = scanner.state;
+    let f = feeder.state;
+    let counts = put_head(out, at, kind, number, s, f);
+    let extra = put_counts(out, counts, r.job.held, r.side.number, r.side.count);
+    let last = extra::put_extra(out, extra, r, answer, reply);
+    desk_text::put_byte(out, last, b'\n')
+}

@@ -1,0 +1,55 @@
+-- The text of an input from a place on: a line, and then the text of the rest. It is what `run` gives for the calls read.
+use Prim.Native.Nat.{ℕ, zero, suc, _+_, _-_, _<_}
+use mathlib.Core.Path.{_≡_, refl, ap, _∙_}
+use mathlib.Core.List.{List, [], _∷_, _++_, append-assoc}
+use native.Mathlib.Omega.{arith}
+use lib.ListN.{length, drop}
+use Rattle.rules.specs.Calls.{Call, State}
+use Rattle.rules.specs.Machine.{step, runBy, run}
+use Rattle.answers.specs.declared.Request.{Request}
+use Rattle.desk_line.specs.Line.{lineFor}
+use Rattle.desk_stream.specs.Desk.{Heard, asks, wrong, heard, callOf, Input, ends, before, badAt, readOn, readFrom, badText, endText, linesOf, printed}
+
+-- what is printed from an offset on, for a box
+abbrev pub textFrom : State → ℕ → List ℕ → List ℕ
+textFrom box at s = printed box (readFrom 0 at s)
+
+skipped : (skip at : ℕ) (s : List ℕ) → readFrom skip at s ≡ readFrom 0 at (drop skip s)
+unfolding readFrom
+skipped zero at s = refl
+skipped (suc skip) at [] = refl
+skipped (suc skip) at (b ∷ s) = skipped skip at s
+
+pub nothing-left : (box : State) (at : ℕ) (s : List ℕ) → length s ≡ 0 → textFrom box at s ≡ []
+unfolding readFrom printed runBy
+nothing-left box at [] e = refl
+nothing-left box at (b ∷ s) e = absurd (omega arith)
+
+reads : (at b : ℕ) (s : List ℕ) (h : Heard) → heard (b ∷ s) ≡ h → readFrom 0 at (b ∷ s) ≡ readOn h at (λ skip next. readFrom skip next s)
+unfolding readFrom
+reads at b s h e = let rest : ℕ → ℕ → Input = λ skip next. readFrom skip next s in ap (λ (x : Heard). readOn x at rest) e
+
+printed-before : (box : State) (k : ℕ) (c : Call) (i : Input) → printed box (before k c i) ≡ lineFor k (step box c) ++ printed (step box c .state) i
+unfolding printed runBy
+printed-before box k c i = append-assoc (lineFor k (step box c)) (linesOf (i .kinds) (run (step box c .state) (i .calls) .outcomes)) (endText (i .ending))
+
+printed-end : (box : State) (at : ℕ) → printed box (ends (badAt at)) ≡ badText at
+unfolding printed runBy
+printed-end box at = refl
+
+pub one-more : (box : State) (at : ℕ) (s : List ℕ) (k : ℕ) (q : Request) (given : List ℕ) (size : ℕ) → 0 < length s
+    → heard s ≡ asks k q given size → 0 < size
+    → textFrom box at s ≡ lineFor k (step box (callOf q given)) ++ textFrom (step box (callOf q given) .state) (at + size) (drop size s)
+one-more box at [] k q given size h e g = absurd (omega arith)
+one-more box at (b ∷ s) k q given zero h e g = absurd (omega arith)
+one-more box at (b ∷ s) k q given (suc size) h e g =
+    let c = callOf q given in
+    let rest : suc size - 1 ≡ size = omega arith in
+    ap (printed box) (reads at b s (asks k q given (suc size)) e)
+    ∙ printed-before box k c (readFrom (suc size - 1) (at + suc size) s)
+    ∙ ap (λ (n : ℕ). lineFor k (step box c) ++ printed (step box c .state) (readFrom n (at + suc size) s)) rest
+    ∙ ap (λ (i : Input). lineFor k (step box c) ++ printed (step box c .state) i) (skipped size (at + suc size) s)
+
+pub one-bad : (box : State) (at : ℕ) (s : List ℕ) → 0 < length s → heard s ≡ wrong → textFrom box at s ≡ badText at
+one-bad box at [] h e = absurd (omega arith)
+one-bad box at (b ∷ s) h e = ap (printed box) (reads at b s wrong e) ∙ printed-end box at

@@ -1,0 +1,119 @@
+-- The desk never stands still: a window of 259 bytes holds a whole record or a bad one, and so does the last window.
+use Prim.Native.Nat.{ℕ, zero, suc, _+_, _-_, _≤_, _<_}
+use mathlib.Core.Path.{_≡_, refl, sym, ap, _∙_, subst}
+use mathlib.Core.Bool.{Bool, true, false, not, cond, _&&_, false≢true}
+use mathlib.Core.List.{List, [], _∷_}
+use native.Mathlib.Nat.{le-refl}
+use native.Mathlib.Omega.{arith}
+use lib.Dec.{eqb}
+use lib.ListN.{length, getD, drop}
+use borrow.Author.Tests.{le-leb}
+use Rattle.rules.specs.Calls.{State}
+use Rattle.rules.specs.Machine.{step}
+use Rattle.desk_records.specs.declared.Fault.{Fault}
+use Rattle.desk_records.specs.declared.Front.{Front}
+use Rattle.desk_kinds.specs.Kinds.{limitsOf, isListed, within}
+use Rattle.desk_records.specs.Reading.{firstMark, secondMark, lengthWidth, lengthAt, headOf, lengthIn, expect, sized, front, cut}
+use Rattle.desk_kinds.proofs.Entries.{listed-short}
+use Rattle.desk_line.specs.Line.{lineRoom}
+use Rattle.desk_stream.specs.Desk.{Heard, asks, wrong, heard, callOf}
+use Rattle.desk_stream.specs.Window.{Progress, begun, answered, broken, waits, roomy, served}
+use Rattle.desk_stream.proofs.Turns.{turns, no-room, another, none}
+use Rattle.desk_stream.proofs.Hearing.{fronted, heard-whole}
+
+-- the longest record: its head and 255 bytes
+abbrev pub longest : ℕ
+longest = 259
+
+-- bytes that are there are no cut, whatever they are
+there : (s : List ℕ) (i w : ℕ) (ok : Bool) (fault : Fault) (rest : Front) → i + w ≤ length s → cut (Front.Wrong fault i) ≡ false
+    → (ok ≡ true → cut rest ≡ false) → cut (expect s i w ok fault rest) ≡ false
+there s i w ok fault rest h f g =
+    ap (λ (b : Bool). cut (cond b (cond ok rest (Front.Wrong fault i)) (Front.Wrong Fault.Cut (length s)))) (le-leb _ _ h) ∙ go ok g
+  where
+    go : (b : Bool) → (b ≡ true → cut rest ≡ false) → cut (cond b rest (Front.Wrong fault i)) ≡ false
+    go true k = k refl
+    go false k = f
+
+sized-uncut : (k : ℕ) (s : List ℕ) → longest ≤ length s → cut (sized k lengthWidth s) ≡ false
+unfolding sized
+sized-uncut k s h =
+    let n = lengthIn lengthWidth s in
+    there s lengthAt lengthWidth (within (limitsOf k) n) Fault.Length (expect s (headOf lengthWidth) n true Fault.Length (Front.Whole k n)) (omega arith) refl
+    (λ e. there s (headOf lengthWidth) n true Fault.Length (Front.Whole k n) (omega (arith, listed-short k n e)) refl (λ _. refl))
+
+pub never-cut : (s : List ℕ) → longest ≤ length s → cut (fronted s) ≡ false
+unfolding front
+never-cut s h =
+    let k = getD s 2 0 in
+    let kinded = expect s 2 1 (isListed (limitsOf k)) Fault.Kind (sized k lengthWidth s) in
+    let second = expect s 1 1 (eqb (getD s 1 0) secondMark) Fault.Mark kinded in
+    there s 0 1 (eqb (getD s 0 0) firstMark) Fault.Mark second (omega arith) refl
+    (λ _. there s 1 1 (eqb (getD s 1 0) secondMark) Fault.Mark kinded (omega arith) refl
+    (λ _. there s 2 1 (isListed (limitsOf k)) Fault.Kind (sized k lengthWidth s) (omega arith) refl (λ _. sized-uncut k s h)))
+
+module _ (base : ℕ) (last : Bool) (room : ℕ) where
+  abbrev Grown : List ℕ → Type 0
+  Grown w = (skip : ℕ) (p : Progress) → p .place ≤ served base last room skip p w .place
+
+  same-place : (b : Bool) (p : Progress) → p .place ≤ cond b p (broken base last room p) .place
+  same-place true p = le-refl (p .place)
+  same-place false p = le-refl (p .place)
+
+  module _ (p : Progress) (b : ℕ) (w : List ℕ) (next : Grown w) where
+    to : (q : Progress) → served base last room 0 p (b ∷ w) ≡ q → p .place ≤ q .place → p .place ≤ served base last room 0 p (b ∷ w) .place
+    to q e h = subst (λ (x : Progress). p .place ≤ x .place) (sym e) h
+
+    by-heard : roomy base last room p ≡ true → (h : Heard) → heard (b ∷ w) ≡ h → p .place ≤ served base last room 0 p (b ∷ w) .place
+    by-heard r (asks k q given size) h =
+        let p' = answered k (step (p .box) (callOf q given)) size p in
+        to _ (turns base last room p b w (asks k q given size) r h) (omega (arith, next (size - 1) p'))
+    by-heard r wrong h = to _ (turns base last room p b w wrong r h) (same-place (waits base last room (b ∷ w)) p)
+
+    by-room : (r : Bool) → roomy base last room p ≡ r → p .place ≤ served base last room 0 p (b ∷ w) .place
+    by-room true r = by-heard r (heard (b ∷ w)) refl
+    by-room false r = to p (no-room base last room p (b ∷ w) r) (le-refl (p .place))
+
+  grows : (w : List ℕ) → Grown w
+  unfolding served
+  grows [] skip p = le-refl (p .place)
+  grows (b ∷ w) (suc skip) p = grows w skip p
+  grows (b ∷ w) zero p = by-room p b w (λ skip q. grows w skip q) (roomy base last room p) refl
+
+  -- a record was answered, or one was bad
+  pub data Moves (q : Progress) : Type 0 where
+    on : 0 < q .place → Moves q
+    over : q .ended ≡ true → Moves q
+
+  -- the window is the last one, or long enough
+  pub data Enough (w : List ℕ) : Type 0 where
+    ending : last ≡ true → Enough w
+    long : longest ≤ length w → Enough w
+
+  waits-not : (w : List ℕ) → Enough w → waits base last room w ≡ false
+  waits-not w (ending e) = both (cut (fronted w)) last e
+    where
+      both : (c l : Bool) → l ≡ true → (c && not l) ≡ false
+      both true true f = refl
+      both false true f = refl
+      both true false f = absurd (false≢true f)
+      both false false f = refl
+  waits-not w (long h) = ap (λ (c : Bool). c && not last) (never-cut w h)
+
+  module _ (box : State) (w : List ℕ) (r : lineRoom ≤ room) (some : 0 < length w) (e : Enough w) where
+    room-left : roomy base last room (begun box) ≡ true
+    room-left = le-leb (0 + lineRoom) room (omega arith)
+
+    by-what : (h : Heard) → heard w ≡ h → Moves (served base last room 0 (begun box) w)
+    by-what (asks k q given size) h =
+        let p = answered k (step box (callOf q given)) size (begun box) in
+        let s = heard-whole w h .some in
+        let same = another base last room (begun box) w some room-left k q given size h s in
+        on (subst (λ (x : Progress). 0 < x .place) (sym same) (omega (arith, grows (drop size w) 0 p)))
+    by-what wrong h =
+        over
+        (ap (λ (x : Progress). x .ended) (none base last room (begun box) w some room-left h)
+        ∙ ap (λ (b : Bool). cond b (begun box) (broken base last room (begun box)) .ended) (waits-not w e))
+
+    pub never-stuck : Moves (served base last room 0 (begun box) w)
+    never-stuck = by-what (heard w) refl

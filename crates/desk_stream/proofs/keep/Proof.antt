@@ -1,0 +1,72 @@
+-- The bytes go to the front one by one.
+use Prim.Native.Nat.{_-_}
+use borrow.Author.Needs.{needs}
+use Rattle.desk_stream.proofs.Keeping.{Keeping, keeping-begins, keeping-again, kept}
+use Rattle.desk_stream.proofs.keep.Statement.{statement}
+use Rattle.desk_stream.proofs.keep.Tie as tie
+use Rattle.desk_stream.proofs.keep.Reads as reads
+use Rattle.desk_stream.proofs.keep.Lts as lts
+use Rattle.desk_stream.proofs.count.Reads as count-reads
+
+abbrev Inv-loop : tie.InvT-loop
+Inv-loop buf₀ at held n i₀ buf i = Keeping buf₀ at held n i buf
+
+abbrev μ-loop : tie.MeasureT-loop
+μ-loop buf₀ at held n i₀ buf i = n - i
+
+-- src/lib.rt:183:9
+count-requires : tie.Need-count-requires Inv-loop μ-loop
+count-requires c κs = search needs
+
+-- src/lib.rt:185:5
+loop-holds : tie.Need-loop-holds Inv-loop μ-loop
+loop-holds c = search (needs, keeping-begins)
+
+-- src/lib.rt:186:22
+add-buf : tie.Need-add-buf Inv-loop μ-loop
+add-buf c = search needs
+
+-- src/lib.rt:186:18
+slice-read-buf : tie.Need-slice-read-buf Inv-loop μ-loop
+slice-read-buf c = search needs
+
+-- src/lib.rt:186:9
+slice-write-buf : tie.Need-slice-write-buf Inv-loop μ-loop
+slice-write-buf c = search needs
+
+-- src/lib.rt:187:9
+add-i : tie.Need-add-i Inv-loop μ-loop
+add-i c = search needs
+
+-- src/lib.rt:185:5
+loop-less : tie.Need-loop-less Inv-loop μ-loop
+loop-less c = search needs
+
+-- src/lib.rt:185:5
+loop-again : tie.Need-loop-again Inv-loop μ-loop
+loop-again c = search (needs, keeping-again)
+
+-- src/lib.rt:180:1
+same-length : tie.Need-same-length Inv-loop μ-loop
+same-length c = search needs
+
+-- src/lib.rt:180:1
+returns : tie.Need-returns Inv-loop μ-loop
+returns c = search (needs, kept)
+
+pub keep-spec : {M : Type 1} → statement M
+keep-spec =
+    tie.close
+    (tie.spec
+    Inv-loop
+    μ-loop
+    count-requires
+    loop-holds
+    add-buf
+    slice-read-buf
+    slice-write-buf
+    add-i
+    loop-less
+    loop-again
+    same-length
+    returns)

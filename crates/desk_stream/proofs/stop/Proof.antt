@@ -1,0 +1,59 @@
+-- A cut record waits where more input may come; any other is told as bad.
+use Prim.Native.Nat.{_+_}
+use mathlib.Core.Path.{refl}
+use Rattle.desk_records.specs.Reading.{cutAt}
+use Rattle.desk_stream.specs.Desk.{badText}
+use Rattle.desk_stream.proofs.Serving.{stop-waits, stop-bad}
+use borrow.Author.Needs.{needs}
+use Rattle.desk_stream.proofs.stop.Statement.{statement}
+use Rattle.desk_stream.proofs.stop.Tie as tie
+use Rattle.desk_stream.proofs.stop.Reads as reads
+use Rattle.desk_stream.proofs.stop.Lts as lts
+use Rattle.desk_records.proofs.read.is_cut.Reads as is-cut-reads
+use Rattle.std.proofs.num.wrapping_add_u64.Reads as wrapping-add-u64-reads
+use Rattle.desk_stream.proofs.put_bad.Reads as put-bad-reads
+
+-- src/lib.rt:80:8
+is-cut-requires : tie.Need-is-cut-requires
+is-cut-requires c κs = search needs
+
+-- src/lib.rt:81:9
+returns : tie.Need-returns
+returns c =
+    let a = c .before .before .before .before .args in
+    let w = stop-waits (cutAt (a .s .now) (a .at)) (a .last) (c .before .is-cut .ensures) (a .out .now) (badText (a .base + a .at)) (a .filled)
+    (c .if1 .taken) in
+    (refl, (refl, w))
+
+-- src/lib.rt:88:36
+wrapping-add-u64-requires : tie.Need-wrapping-add-u64-requires
+wrapping-add-u64-requires c κs = search needs
+
+-- src/lib.rt:88:9
+put-bad-requires : tie.Need-put-bad-requires
+put-bad-requires c κs = search needs
+
+-- src/lib.rt:66:1
+same-length : tie.Need-same-length
+same-length c = search needs
+
+-- src/lib.rt:66:1
+returns-2 : tie.Need-returns-2
+returns-2 c =
+    let a = c .before .before .before .before .before .before .before .before .before .args in
+    let f = c .before .before .before .before .before in
+    let put = c .before .before in
+    let w = stop-bad (cutAt (a .s .now) (a .at)) (a .last) (f .before .is-cut .ensures) (a .out .now) (put .put-bad .last .0) (a .filled)
+    (put .put-bad .result) (a .base + a .at) (f .if1 .left) (put .before .wrapping-add-u64 .ensures) (put .put-bad .ensures) in
+    (refl, (refl, w))
+
+pub stop-spec : {M : Type 1} → statement M
+stop-spec =
+    tie.close
+    (tie.spec
+    is-cut-requires
+    returns
+    wrapping-add-u64-requires
+    put-bad-requires
+    same-length
+    returns-2)
