@@ -10,35 +10,27 @@ use Rattle.io.proofs.write_all.Reads as write-all-reads
 use Rattle.os.proofs.errno.Reads as errno-reads
 use Rattle.os.proofs.fail.Reads as fail-reads
 
--- src/main.rt:79:37
 slice-aggregate-write-all : tie.Need-slice-aggregate-write-all
 slice-aggregate-write-all c = sym (length-take-le _ (c .before .before .args .out .now) (c .before .before .pre))
 
--- src/main.rt:79:8
 write-all-requires : tie.Need-write-all-requires
 write-all-requires c κs = search needs
 
--- src/main.rt:80:9
 returns : tie.Need-returns
 returns c = search needs
 
--- src/main.rt:82:8
 errno-requires : tie.Need-errno-requires
 errno-requires c κs = search needs
 
--- src/main.rt:83:18
 slice-aggregate-fail : tie.Need-slice-aggregate-fail
 slice-aggregate-fail c = search needs
 
--- src/main.rt:83:9
 fail-requires : tie.Need-fail-requires
 fail-requires c κs = search needs
 
--- src/main.rt:76:1
 returns-2 : tie.Need-returns-2
 returns-2 c = search needs
 
--- src/main.rt:76:1
 returns-3 : tie.Need-returns-3
 returns-3 c = search needs
 

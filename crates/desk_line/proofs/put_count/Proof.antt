@@ -1,4 +1,4 @@
--- `line::put_count`: either arm of the sign's test.
+-- Either arm of the sign's test.
 use borrow.Author.Tests.{lt-ltb, le-ltb}
 use borrow.Author.Needs.{needs}
 use Rattle.desk_text.proofs.Putting.{then}

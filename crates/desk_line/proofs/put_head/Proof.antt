@@ -1,4 +1,4 @@
--- `line::put_head`: one part behind the other.
+-- One part behind the other.
 use borrow.Author.Needs.{needs}
 use Rattle.desk_text.proofs.Putting.{then}
 use Rattle.desk_line.proofs.put_head.Statement.{statement}

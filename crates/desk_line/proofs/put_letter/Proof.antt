@@ -1,4 +1,4 @@
--- `line::put_letter`: one text behind the other.
+-- One text behind the other.
 use borrow.Author.Needs.{needs}
 use Rattle.desk_text.proofs.Putting.{then}
 use Rattle.desk_line.proofs.put_letter.Statement.{statement}

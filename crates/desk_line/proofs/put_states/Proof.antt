@@ -1,4 +1,4 @@
--- `line::put_states`: one letter behind the other.
+-- One letter behind the other.
 use borrow.Author.Needs.{needs}
 use Rattle.desk_text.proofs.Putting.{then}
 use Rattle.desk_line.proofs.put_states.Statement.{statement}

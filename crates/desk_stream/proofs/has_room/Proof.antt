@@ -6,11 +6,9 @@ use Rattle.desk_stream.proofs.has_room.Tie as tie
 use Rattle.desk_stream.proofs.has_room.Reads as reads
 use Rattle.desk_stream.proofs.has_room.Lts as lts
 
--- src/lib.rt:102:9
 returns : tie.Need-returns
 returns c = search (needs, no-line)
 
--- src/lib.rt:98:1
 returns-2 : tie.Need-returns-2
 returns-2 c = search (needs, line-fits)
 

@@ -14,43 +14,33 @@ Inv-loop buf₀ at held n i₀ buf i = Keeping buf₀ at held n i buf
 abbrev μ-loop : tie.MeasureT-loop
 μ-loop buf₀ at held n i₀ buf i = n - i
 
--- src/lib.rt:183:9
 count-requires : tie.Need-count-requires Inv-loop μ-loop
 count-requires c κs = search needs
 
--- src/lib.rt:185:5
 loop-holds : tie.Need-loop-holds Inv-loop μ-loop
 loop-holds c = search (needs, keeping-begins)
 
--- src/lib.rt:186:22
 add-buf : tie.Need-add-buf Inv-loop μ-loop
 add-buf c = search needs
 
--- src/lib.rt:186:18
 slice-read-buf : tie.Need-slice-read-buf Inv-loop μ-loop
 slice-read-buf c = search needs
 
--- src/lib.rt:186:9
 slice-write-buf : tie.Need-slice-write-buf Inv-loop μ-loop
 slice-write-buf c = search needs
 
--- src/lib.rt:187:9
 add-i : tie.Need-add-i Inv-loop μ-loop
 add-i c = search needs
 
--- src/lib.rt:185:5
 loop-less : tie.Need-loop-less Inv-loop μ-loop
 loop-less c = search needs
 
--- src/lib.rt:185:5
 loop-again : tie.Need-loop-again Inv-loop μ-loop
 loop-again c = search (needs, keeping-again)
 
--- src/lib.rt:180:1
 same-length : tie.Need-same-length Inv-loop μ-loop
 same-length c = search needs
 
--- src/lib.rt:180:1
 returns : tie.Need-returns Inv-loop μ-loop
 returns c = search (needs, kept)
 

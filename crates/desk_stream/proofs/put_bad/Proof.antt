@@ -9,27 +9,21 @@ use Rattle.desk_text.proofs.put_byte.Reads as put-byte-reads
 use Rattle.desk_text.proofs.put_bytes.Reads as put-bytes-reads
 use Rattle.desk_text.proofs.put_decimal.Reads as put-decimal-reads
 
--- src/lib.rt:60:38
 slice-aggregate-put-bytes : tie.Need-slice-aggregate-put-bytes
 slice-aggregate-put-bytes c = search needs
 
--- src/lib.rt:60:9
 put-bytes-requires : tie.Need-put-bytes-requires
 put-bytes-requires c κs = search needs
 
--- src/lib.rt:61:9
 put-decimal-requires : tie.Need-put-decimal-requires
 put-decimal-requires c κs = search needs
 
--- src/lib.rt:62:5
 put-byte-requires : tie.Need-put-byte-requires
 put-byte-requires c κs = search needs
 
--- src/lib.rt:57:1
 same-length : tie.Need-same-length
 same-length c = search needs
 
--- src/lib.rt:57:1
 returns : tie.Need-returns
 returns c =
     let offset = c .before .before .before .before .before .before in

@@ -6,23 +6,18 @@ use Rattle.desk_stream.proofs.serve.Reads as reads
 use Rattle.desk_stream.proofs.serve.Lts as lts
 use Rattle.desk_stream.proofs.serve_with.Reads as serve-with-reads
 
--- src/lib.rt:170:25
 slice-aggregate-serve-with : tie.Need-slice-aggregate-serve-with
 slice-aggregate-serve-with c = search needs
 
--- src/lib.rt:170:5
 serve-with-requires : tie.Need-serve-with-requires
 serve-with-requires c κs = search needs
 
--- src/lib.rt:163:1
 same-length : tie.Need-same-length
 same-length c = search needs
 
--- src/lib.rt:163:1
 same-length-2 : tie.Need-same-length-2
 same-length-2 c = search needs
 
--- src/lib.rt:163:1
 returns : tie.Need-returns
 returns c = let h = c .before .before .before .before .before .serve-with .ensures in (h, (h .inside, h .fits))
 

@@ -13,11 +13,9 @@ use Rattle.desk_records.proofs.read.is_cut.Reads as is-cut-reads
 use Rattle.std.proofs.num.wrapping_add_u64.Reads as wrapping-add-u64-reads
 use Rattle.desk_stream.proofs.put_bad.Reads as put-bad-reads
 
--- src/lib.rt:80:8
 is-cut-requires : tie.Need-is-cut-requires
 is-cut-requires c κs = search needs
 
--- src/lib.rt:81:9
 returns : tie.Need-returns
 returns c =
     let a = c .before .before .before .before .args in
@@ -25,19 +23,15 @@ returns c =
     (c .if1 .taken) in
     (refl, (refl, w))
 
--- src/lib.rt:88:36
 wrapping-add-u64-requires : tie.Need-wrapping-add-u64-requires
 wrapping-add-u64-requires c κs = search needs
 
--- src/lib.rt:88:9
 put-bad-requires : tie.Need-put-bad-requires
 put-bad-requires c κs = search needs
 
--- src/lib.rt:66:1
 same-length : tie.Need-same-length
 same-length c = search needs
 
--- src/lib.rt:66:1
 returns-2 : tie.Need-returns-2
 returns-2 c =
     let a = c .before .before .before .before .before .before .before .before .before .args in

@@ -1,4 +1,4 @@
--- `text::cut_decimal`: the front of the buffer is the number, as long as it is.
+-- The front of the buffer is the number, as long as it is.
 use mathlib.Core.Path.{sym, ap, _∙_}
 use native.Mathlib.Omega.{arith}
 use borrow.Author.Needs.{needs}

@@ -1,4 +1,4 @@
--- `text::cut_hexes`: after i bytes their digits stand, and `next` is the place behind them.
+-- After i bytes their digits stand, and `next` is the place behind them.
 use Prim.Native.Nat.{_-_, _≤_}
 use borrow.Author.Needs.{needs}
 use lib.ListN.{length, take}

@@ -1,4 +1,4 @@
--- `text::fill_digits`: in each turn one digit more stands at the end of the part, and the number left has one less.
+-- In each turn one digit more stands at the end of the part, and the number left has one less.
 use mathlib.Core.Path.{sym, _∙_}
 use borrow.Author.Needs.{needs}
 use lib.ListN.{length-set}

@@ -1,4 +1,4 @@
--- `text::fill_hexes`: after i bytes their digits stand at the front of the part.
+-- After i bytes their digits stand at the front of the part.
 use Prim.Native.Nat.{_-_, _*_, _≤_}
 use native.Mathlib.Omega.{arith}
 use borrow.Author.Needs.{needs}

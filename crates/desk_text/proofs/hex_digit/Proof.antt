@@ -1,4 +1,4 @@
--- `text::hex_digit`: the sum is the definition's arm on either side of ten.
+-- The sum is the definition's arm on either side of ten.
 use borrow.Author.Needs.{needs}
 use Rattle.desk_text.proofs.Putting.{hex-sum}
 use Rattle.desk_text.proofs.hex_digit.Statement.{statement}

@@ -1,4 +1,4 @@
--- `text::put_byte`: one byte where there is room, none where there is not.
+-- One byte where there is room, none where there is not.
 use borrow.Author.Needs.{needs}
 use Rattle.desk_text.proofs.Putting.{put-one-fits, put-full}
 use Rattle.desk_text.proofs.put_byte.Statement.{statement}

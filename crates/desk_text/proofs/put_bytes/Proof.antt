@@ -1,4 +1,4 @@
--- `text::put_bytes`: after i of the n bytes that there is room for the first i stand.
+-- After i of the n bytes that there is room for the first i stand.
 use Prim.Native.Nat.{_+_, _-_, _≤_, min}
 use mathlib.Core.Path.{_≡_}
 use native.Mathlib.Nat.{add-zero}

@@ -1,4 +1,4 @@
--- `text::put_decimal`: one digit, or as its digits are put.
+-- One digit, or as its digits are put.
 use borrow.Author.Needs.{needs}
 use Rattle.desk_text.proofs.Putting.{digits-one}
 use Rattle.desk_text.proofs.put_decimal.Statement.{statement}

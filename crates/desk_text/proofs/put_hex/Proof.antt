@@ -1,4 +1,4 @@
--- `text::put_hex`: one digit behind the other.
+-- One digit behind the other.
 use borrow.Author.Needs.{needs}
 use Rattle.desk_text.proofs.Putting.{hex-two}
 use Rattle.desk_text.proofs.put_hex.Statement.{statement}

@@ -1,4 +1,4 @@
--- `text::put_hexes`: none where there is no room, those for which there is room, or all of them in a part as long as they are.
+-- None where there is no room, those for which there is room, or all of them in a part as long as they are.
 use native.Mathlib.Omega.{arith}
 use borrow.Author.Needs.{needs}
 use Rattle.desk_text.proofs.Putting.{put-full, put-part, length-hexes}

@@ -1,4 +1,4 @@
--- `text::width`: each rung is the power of ten that the number does not reach.
+-- Each rung is the power of ten that the number does not reach.
 use native.Mathlib.Omega.{arith}
 use Rattle.desk_text.proofs.Putting.{wide-one, wide}
 use Rattle.desk_text.proofs.width.Statement.{statement}

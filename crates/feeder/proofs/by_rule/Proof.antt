@@ -1,4 +1,4 @@
--- `feeder::by_rule`: each return is an arm of the test on the number that the rule gave (`Guards`).
+-- Each return is an arm of the test on the number that the rule gave (`Guards`).
 use borrow.Author.Needs.{needs}
 use Rattle.rules.proofs.Guards.{guards, numbers}
 use Rattle.feeder.proofs.by_rule.Statement.{statement}

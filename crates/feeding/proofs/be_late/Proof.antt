@@ -1,4 +1,4 @@
--- `feeding::be_late`: each return is an arm of the definition's test (`Guards`).
+-- Each return is an arm of the definition's test (`Guards`).
 use borrow.Author.Needs.{needs}
 use Rattle.rules.proofs.Guards.{guards, numbers}
 use Rattle.feeding.proofs.be_late.Statement.{statement}

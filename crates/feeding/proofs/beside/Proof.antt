@@ -1,4 +1,4 @@
--- `feeding::beside`: each return is the definition's clause for that input.
+-- Each return is the definition's clause for that input.
 use borrow.Author.Needs.{needs}
 use Rattle.feeding.proofs.beside.Statement.{statement}
 use Rattle.feeding.proofs.beside.Tie as tie

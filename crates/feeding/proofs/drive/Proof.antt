@@ -1,4 +1,4 @@
--- `feeding::drive`: the callees' equations, one after the other.
+-- The callees' equations, one after the other.
 use borrow.Author.Needs.{needs}
 use Rattle.feeding.proofs.drive.Statement.{statement}
 use Rattle.feeding.proofs.drive.Tie as tie

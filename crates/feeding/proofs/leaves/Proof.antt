@@ -1,4 +1,4 @@
--- `feeding::leaves`: the callees' equations, one after the other.
+-- The callees' equations, one after the other.
 use borrow.Author.Needs.{needs}
 use Rattle.feeding.proofs.leaves.Statement.{statement}
 use Rattle.feeding.proofs.leaves.Tie as tie

@@ -1,4 +1,4 @@
--- `feeding::sheet_stops`: the callees' equations, one after the other.
+-- The callees' equations, one after the other.
 use borrow.Author.Needs.{needs}
 use Rattle.feeding.proofs.sheet_stops.Statement.{statement}
 use Rattle.feeding.proofs.sheet_stops.Tie as tie

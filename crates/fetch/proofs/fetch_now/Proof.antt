@@ -1,4 +1,4 @@
--- `fetch::fetch_now`: what is handed over (`Handed`).
+-- What is handed over (`Handed`).
 use borrow.Author.Needs.{needs}
 use Rattle.fetch.proofs.Handed.{least-is}
 use Rattle.fetch.proofs.fetch_now.Statement.{statement}

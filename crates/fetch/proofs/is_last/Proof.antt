@@ -1,4 +1,4 @@
--- `fetch::is_last`: the callees' equations, one after the other.
+-- The callees' equations, one after the other.
 use borrow.Author.Needs.{needs}
 use Rattle.fetch.proofs.is_last.Statement.{statement}
 use Rattle.fetch.proofs.is_last.Tie as tie

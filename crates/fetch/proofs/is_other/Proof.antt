@@ -1,4 +1,4 @@
--- `fetch::is_other`: the callees' equations, one after the other.
+-- The callees' equations, one after the other.
 use borrow.Author.Needs.{needs}
 use Rattle.fetch.proofs.is_other.Statement.{statement}
 use Rattle.fetch.proofs.is_other.Tie as tie

@@ -1,4 +1,4 @@
--- `fetch::move_out`: what is handed over (`Handed`).
+-- What is handed over (`Handed`).
 use Prim.Native.Nat.{_-_}
 use mathlib.Core.Path.{_∙_}
 use native.Mathlib.Omega.{arith}

@@ -1,4 +1,4 @@
--- `entry::tick`: a walk of its MIR. The record is copied out of the borrow whole, and of what `second` answers the next one is stored there whole.
+-- A walk of its MIR. The record is copied out of the borrow whole, and of what `second` answers the next one is stored there whole.
 -- It meets the answer's two fields and no field of the record.
 use mathlib.Core.Path.{_≡_, refl, ap}
 use Prim.Native.Nat.{ℕ, _<_, _^_}
@@ -49,9 +49,9 @@ use Rattle.host_tick.proofs.Ticked as S
 use Rattle.host_tick.proofs.Ticked.Laws as S′
 use Rattle.host_tick.proofs.second as second
 use Rattle.host_tick.proofs.second.Symbol as second-def
-use Rattle.host_tick.proofs.second.Symbol.{name as #entry·second}
+use Rattle.host_tick.proofs.second.Symbol.{name as #host_tick·second}
 use Rattle.host_tick.proofs.second.Met as second-thm
-use Rattle.host_tick.proofs.tick.Key.{name as #entry·tick}
+use Rattle.host_tick.proofs.tick.Key.{name as #host_tick·tick}
 use Rattle.host_tick.proofs.tick as f
 use Rattle.host_tick.proofs.tick.Statement as stated
 use Rattle.host_tick.proofs.tick.Code as code
@@ -117,7 +117,7 @@ module _ {M : Type 1} (𝓤 : URA M) (H : Heap 𝓤) (A : Atoms 𝓤) (W : Given
         qed W (‵ (usize .own n (vint w64 n ∷ [])) ∷ ‵ (R .own h (vals h)) ∷ []) ∵
         nothing ! $ move ! (1 ∷ 0 ∷ []) $ fjoin ! $ move ! (1 ∷ 0 ∷ []) $ fjoin ! $ nothing ! $ join ! $ frame ! $ done !
 
-    module _ (C : Calls 𝓤 H) (Λ : Loops 𝓤 H) (fm : FmC 𝓤 H (W .laws) C) (known : Triple 𝓤 (C #entry·second) Second) where
+    module _ (C : Calls 𝓤 H) (Λ : Loops 𝓤 H) (fm : FmC 𝓤 H (W .laws) C) (known : Triple 𝓤 (C #host_tick·second) Second) where
       walk : ent 𝓤 (onEntry 𝓤 H A f.signature (κ, tt) (q, tt) x at) (WpFn 𝓤 H C Λ code.function (vptr b o ∷ vint w64 n ∷ []) Post)
       walk =
           qed W ((‵ (flft κ q) ⊛ ‵ ftrue) ∷ ‵ (owns (MutRef (named 0) κ R ∷ usize ∷ []) x at) ∷ []) ∵
@@ -154,7 +154,7 @@ module _ {M : Type 1} (𝓤 : URA M) (H : Heap 𝓤) (A : Atoms 𝓤) (W : Given
           move ! (5 ∷ 6 ∷ []) $ free1 ! $ move ! (3 ∷ 4 ∷ []) $ free1 ! $ free0 ! $
           keep ! (0 ∷ 1 ∷ 2 ∷ []) $ by ! (exits t number next (parts t _ is .1))))))))))))))
 
-  module _ (𝓣 : Tables 𝓤 H) (known : Triple 𝓤 (𝓣 .C #entry·second) Second) where
+  module _ (𝓣 : Tables 𝓤 H) (known : Triple 𝓤 (𝓣 .C #host_tick·second) Second) where
     walks : Walks 𝓤 H A f.ended stayed (WpFn 𝓤 H (𝓣 .C) (𝓣 .Λ) code.function) (f.clauses 𝓤 H A at-mem run)
     walks =
         walked 𝓤 H A f.ended stayed (f.clauses 𝓤 H A at-mem run) (WpFn 𝓤 H (𝓣 .C) (𝓣 .Λ) code.function)
@@ -173,7 +173,7 @@ pub tick-spec : {M : Type 1} → stated.statement M
 unfolding code.routine tablesOf
 tick-spec 𝓤 H 𝓜 𝓖 𝓡 =
     entered 𝓤 H (tripleOf 𝓤 H (𝓖 .A) f.signature (f.spec 𝓤 H (𝓖 .A) (𝓜 .mem) (𝓡 .run)))
-    (tables 𝓤 H 𝓜 𝓡 code.env .C) (tables 𝓤 H 𝓜 𝓡 code.env .Λ) #entry·tick code.function (code.unfolded 𝓤 H 𝓜 𝓡)
+    (tables 𝓤 H 𝓜 𝓡 code.env .C) (tables 𝓤 H 𝓜 𝓡 code.env .Λ) #host_tick·tick code.function (code.unfolded 𝓤 H 𝓜 𝓡)
     (meets 𝓤 H (𝓖 .A) (givenOf 𝓤 H 𝓜 𝓖) (𝓜 .mem) (𝓡 .run) (tablesOf 𝓤 H 𝓜 (tables 𝓤 H 𝓜 𝓡 code.env))
-    (cited 𝓤 H (Second 𝓤 H (𝓖 .A) (givenOf 𝓤 H 𝓜 𝓖) (𝓜 .mem) (𝓡 .run)) 𝓜 𝓡 code.env #entry·second second-def.routine
-    code.calls-host_tick·second (second-thm.met 𝓤 H 𝓜 𝓖 𝓡)))
+    (cited 𝓤 H (Second 𝓤 H (𝓖 .A) (givenOf 𝓤 H 𝓜 𝓖) (𝓜 .mem) (𝓡 .run)) 𝓜 𝓡 code.env #host_tick·second second-def.routine
+    code.calls-host-tick·second (second-thm.met 𝓤 H 𝓜 𝓖 𝓡)))

@@ -1,4 +1,4 @@
--- `jobs::give`: the callees' equations, one after the other.
+-- The callees' equations, one after the other.
 use borrow.Author.Needs.{needs}
 use Rattle.rules.specs.Moves.{given}
 use Rattle.jobs.proofs.give.Statement.{statement}

@@ -1,4 +1,4 @@
--- `jobs::next_job`: each return is an arm of the definition's test (`Guards`).
+-- Each return is an arm of the definition's test (`Guards`).
 use borrow.Author.Needs.{needs}
 use Rattle.rules.proofs.Guards.{guards, numbers}
 use Rattle.jobs.proofs.next_job.Statement.{statement}

@@ -1,4 +1,4 @@
--- `jobs::ready`: the callees' equations, one after the other.
+-- The callees' equations, one after the other.
 use borrow.Author.Needs.{needs}
 use Rattle.rules.specs.Moves.{readied}
 use Rattle.jobs.proofs.ready.Statement.{statement}

@@ -1,4 +1,4 @@
--- `jobs::start`: each return is an arm of the definition's test (`Guards`).
+-- Each return is an arm of the definition's test (`Guards`).
 use borrow.Author.Needs.{needs}
 use Rattle.rules.specs.Moves.{started}
 use Rattle.rules.proofs.Guards.{guards, numbers}

@@ -1,4 +1,4 @@
--- `jobs::stop`: each return is an arm of the definition's test (`Guards`).
+-- Each return is an arm of the definition's test (`Guards`).
 use borrow.Author.Needs.{needs}
 use Rattle.rules.specs.Moves.{stopped}
 use Rattle.rules.proofs.Guards.{guards, numbers}

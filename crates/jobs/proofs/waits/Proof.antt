@@ -1,4 +1,4 @@
--- `jobs::waits`: the callees' equations, one after the other.
+-- The callees' equations, one after the other.
 use borrow.Author.Needs.{needs}
 use Rattle.jobs.proofs.waits.Statement.{statement}
 use Rattle.jobs.proofs.waits.Tie as tie

@@ -1,4 +1,4 @@
--- `moves::announce`: the callees' equations, one after the other.
+-- The callees' equations, one after the other.
 use borrow.Author.Needs.{needs}
 use Rattle.moves.proofs.announce.Statement.{statement}
 use Rattle.moves.proofs.announce.Tie as tie

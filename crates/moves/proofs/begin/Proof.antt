@@ -1,4 +1,4 @@
--- `moves::begin`: the callees' equations, one after the other.
+-- The callees' equations, one after the other.
 use borrow.Author.Needs.{needs}
 use Rattle.rules.specs.Moves.{begun}
 use Rattle.moves.proofs.begin.Statement.{statement}

@@ -1,4 +1,4 @@
--- `moves::drain`: the callees' equations, one after the other.
+-- The callees' equations, one after the other.
 use borrow.Author.Needs.{needs}
 use Rattle.rules.specs.Moves.{drained}
 use Rattle.moves.proofs.drain.Statement.{statement}

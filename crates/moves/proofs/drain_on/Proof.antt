@@ -1,4 +1,4 @@
--- `moves::drain_on`: each return is an arm of the definition's test (`Guards`).
+-- Each return is an arm of the definition's test (`Guards`).
 use borrow.Author.Needs.{needs}
 use Rattle.rules.proofs.Guards.{guards, numbers}
 use Rattle.moves.proofs.drain_on.Statement.{statement}

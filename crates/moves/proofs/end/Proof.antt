@@ -1,4 +1,4 @@
--- `moves::end`: the callees' equations, one after the other.
+-- The callees' equations, one after the other.
 use borrow.Author.Needs.{needs}
 use Rattle.moves.proofs.end.Statement.{statement}
 use Rattle.moves.proofs.end.Tie as tie

@@ -1,4 +1,4 @@
--- `moves::end_by_time`: the callees' equations, one after the other.
+-- The callees' equations, one after the other.
 use borrow.Author.Needs.{needs}
 use Rattle.moves.proofs.end_by_time.Statement.{statement}
 use Rattle.moves.proofs.end_by_time.Tie as tie

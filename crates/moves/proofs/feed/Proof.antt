@@ -1,4 +1,4 @@
--- `moves::feed`: the callees' equations, one after the other.
+-- The callees' equations, one after the other.
 use borrow.Author.Needs.{needs}
 use Rattle.moves.proofs.feed.Statement.{statement}
 use Rattle.moves.proofs.feed.Tie as tie

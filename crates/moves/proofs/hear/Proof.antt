@@ -1,4 +1,4 @@
--- `moves::hear`: the test decides which value the definition takes.
+-- The test decides which value the definition takes.
 use borrow.Author.Tests.{le-leb, lt-leb}
 use Rattle.moves.proofs.hear.Statement.{statement}
 use Rattle.moves.proofs.hear.Tie as tie

@@ -1,4 +1,4 @@
--- `moves::number`: the test decides which value the definition takes.
+-- The test decides which value the definition takes.
 use borrow.Author.Tests.{lt-ltb, le-ltb}
 use borrow.Author.Needs.{needs}
 use Rattle.moves.proofs.number.Statement.{statement}

@@ -1,4 +1,4 @@
--- `moves::release`: the definition, unfolded, is what the code writes.
+-- The definition, unfolded, is what the code writes.
 use mathlib.Core.Path.{refl}
 use Rattle.rules.specs.Moves.{released}
 use Rattle.moves.proofs.release.Statement.{statement}

@@ -1,4 +1,4 @@
--- `name::is_present`: the callees' equations, one after the other.
+-- The callees' equations, one after the other.
 use mathlib.Core.Path.{sym}
 use borrow.Author.Needs.{needs}
 use lib.Seq.{length-take-le}

@@ -1,4 +1,4 @@
--- `name::is_same`: the loop's invariant is that what is left to compare decides.
+-- The loop's invariant is that what is left to compare decides.
 use Prim.Native.Nat.{_-_}
 use mathlib.Core.Path.{_≡_, refl, sym, _∙_}
 use native.Mathlib.Omega.{arith}

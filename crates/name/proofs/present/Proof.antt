@@ -1,4 +1,4 @@
--- `name::present`: the test decides which value the definition takes.
+-- The test decides which value the definition takes.
 use borrow.Author.Tests.{eq-eqb, ne-eqb}
 use borrow.Author.Needs.{needs}
 use Rattle.name.specs.Spelled.{padded}

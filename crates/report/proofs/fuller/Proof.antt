@@ -1,4 +1,4 @@
--- `report::fuller`: the callees' equations, one after the other.
+-- The callees' equations, one after the other.
 use borrow.Author.Needs.{needs}
 use Rattle.rules.specs.Moves.{filled}
 use Rattle.report.proofs.fuller.Statement.{statement}

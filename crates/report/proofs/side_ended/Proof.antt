@@ -1,4 +1,4 @@
--- `report::side_ended`: each return walks the call's refusals up to the test that answered (`Leads`).
+-- Each return walks the call's refusals up to the test that answered (`Leads`).
 use borrow.Author.Needs.{needs}
 use Rattle.rules.specs.Machine.{step, refusals, reportRefusals, effect, reportEffect}
 use Rattle.answers.proofs.Leads.{leads, accept, hit, skip, tests}

@@ -1,4 +1,4 @@
--- `report::tick`: a second with the ring's length.
+-- A second with the ring's length.
 use mathlib.Core.Path.{refl}
 use borrow.Author.Needs.{needs}
 use Rattle.report.proofs.tick.Statement.{statement}

@@ -1,4 +1,4 @@
--- `report::ticks`: the loop's invariant is `Passing`.
+-- The loop's invariant is `Passing`.
 use Prim.Native.Nat.{_-_}
 use borrow.Author.Needs.{needs}
 use Rattle.report.proofs.Seconds.{Passing, begins, again, passed}

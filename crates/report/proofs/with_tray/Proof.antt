@@ -1,4 +1,4 @@
--- `report::with_tray`: the callees' equations, one after the other.
+-- The callees' equations, one after the other.
 use borrow.Author.Needs.{needs}
 use Rattle.report.proofs.with_tray.Statement.{statement}
 use Rattle.report.proofs.with_tray.Tie as tie

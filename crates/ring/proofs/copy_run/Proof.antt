@@ -1,4 +1,4 @@
--- `ring::copy_run`: the loop's invariant is `Copying`.
+-- The loop's invariant is `Copying`.
 use Prim.Native.Nat.{_-_}
 use borrow.Author.Needs.{needs}
 use Rattle.ring.proofs.Copying.{Copying, copying, copying-again, copied}

@@ -1,4 +1,4 @@
--- `ring::fill`: the end of the straight runs (`Runs`).
+-- The end of the straight runs (`Runs`).
 use borrow.Author.Needs.{needs}
 use Rattle.ring.proofs.Runs.{fill-end}
 use Rattle.ring.proofs.fill.Statement.{statement}

@@ -1,4 +1,4 @@
--- `ring::fits`: the callees' equations, one after the other.
+-- The callees' equations, one after the other.
 use borrow.Author.Needs.{needs}
 use Rattle.ring.proofs.fits.Statement.{statement}
 use Rattle.ring.proofs.fits.Tie as tie

@@ -1,4 +1,4 @@
--- `ring::place`: the end of the straight runs (`Runs`).
+-- The end of the straight runs (`Runs`).
 use borrow.Author.Needs.{needs}
 use Rattle.ring.proofs.Runs.{near-place, far-place}
 use Rattle.ring.proofs.place.Statement.{statement}

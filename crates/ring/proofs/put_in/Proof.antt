@@ -1,4 +1,4 @@
--- `ring::put_in`: the end of the straight runs (`Runs`).
+-- The end of the straight runs (`Runs`).
 use mathlib.Core.Path.{sym, _∙_}
 use native.Mathlib.Omega.{arith}
 use borrow.Author.Needs.{needs}

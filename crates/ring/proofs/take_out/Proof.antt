@@ -1,4 +1,4 @@
--- `ring::take_out`: the end of the straight runs (`Runs`).
+-- The end of the straight runs (`Runs`).
 use borrow.Author.Needs.{needs}
 use Rattle.ring.proofs.Runs.{goes-is, goes-none, take-end, take-none}
 use Rattle.ring.proofs.take_out.Statement.{statement}

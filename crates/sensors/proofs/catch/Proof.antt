@@ -1,4 +1,4 @@
--- `sensors::catch`: the callees' equations, one after the other.
+-- The callees' equations, one after the other.
 use borrow.Author.Needs.{needs}
 use Rattle.sensors.proofs.catch.Statement.{statement}
 use Rattle.sensors.proofs.catch.Tie as tie

@@ -1,4 +1,4 @@
--- `sensors::finish`: the callees' equations, one after the other.
+-- The callees' equations, one after the other.
 use borrow.Author.Needs.{needs}
 use Rattle.rules.specs.Moves.{finished}
 use Rattle.sensors.proofs.finish.Statement.{statement}

@@ -1,4 +1,4 @@
--- `sensors::is_fed`: the callees' equations, one after the other.
+-- The callees' equations, one after the other.
 use borrow.Author.Needs.{needs}
 use Rattle.sensors.proofs.is_fed.Statement.{statement}
 use Rattle.sensors.proofs.is_fed.Tie as tie

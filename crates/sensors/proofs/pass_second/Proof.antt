@@ -1,4 +1,4 @@
--- `sensors::pass_second`: each return is an arm of the definition's test (`Guards`).
+-- Each return is an arm of the definition's test (`Guards`).
 use borrow.Author.Needs.{needs}
 use Rattle.rules.proofs.Guards.{guards, numbers}
 use Rattle.sensors.proofs.pass_second.Statement.{statement}

@@ -1,4 +1,4 @@
--- `sensors::set_path`: each return is an arm of the definition's test (`Guards`).
+-- Each return is an arm of the definition's test (`Guards`).
 use borrow.Author.Needs.{needs}
 use Rattle.rules.specs.Moves.{pathed}
 use Rattle.rules.proofs.Guards.{guards, numbers}

@@ -1,4 +1,4 @@
--- `sides::raise`: the wrapping sum, at the wrap too (`Wrap`).
+-- The wrapping sum, at the wrap too (`Wrap`).
 use mathlib.Core.Path.{_∙_}
 use borrow.Author.Needs.{needs}
 use Rattle.sides.proofs.Wrap.{wrap-risen}

@@ -1,4 +1,4 @@
--- `sides::stored_sides`: each return is an arm of the definition's test (`Guards`).
+-- Each return is an arm of the definition's test (`Guards`).
 use borrow.Author.Needs.{needs}
 use Rattle.rules.proofs.Guards.{guards, numbers}
 use Rattle.sides.proofs.stored_sides.Statement.{statement}

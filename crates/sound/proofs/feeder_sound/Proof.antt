@@ -1,4 +1,4 @@
--- `state::feeder_sound`: in Scanning from the feeder and on the glass, in Finishing and outside them, the tests that are left (`Points`).
+-- In Scanning from the feeder and on the glass, in Finishing and outside them, the tests that are left (`Points`).
 use borrow.Author.Needs.{needs}
 use mathlib.Core.Path.{sym, _∙_}
 use Rattle.sound.proofs.Points.{from-feeder, on-glass, feeder-finishing, feeder-outside}

@@ -1,4 +1,4 @@
--- `state::held_sound`: in Idle and outside it, the tests that are left (`Points`).
+-- In Idle and outside it, the tests that are left (`Points`).
 use borrow.Author.Needs.{needs}
 use mathlib.Core.Path.{sym, _∙_}
 use Rattle.sound.proofs.Points.{held-in}

@@ -1,4 +1,4 @@
--- `sound::is_sound`: a group that fails settles it; where all but the last hold, that decides (`Points`).
+-- A group that fails settles it; where all but the last hold, that decides (`Points`).
 use borrow.Author.Needs.{needs}
 use Rattle.sound.proofs.Points.{idle-fails, held-fails, ring-fails, feeder-fails, marks-decide}
 use Rattle.sound.proofs.is_sound.Statement.{statement}

@@ -1,4 +1,4 @@
--- `state::mark_sound`: with no stop and no jam, the tests that are left (`Points`); otherwise the callees' equations, one after the other.
+-- With no stop and no jam, the tests that are left (`Points`); otherwise the callees' equations, one after the other.
 use borrow.Author.Needs.{needs}
 use Rattle.sound.proofs.Points.{no-marks}
 use Rattle.sound.proofs.mark_sound.Statement.{statement}

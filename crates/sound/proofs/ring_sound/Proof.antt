@@ -1,4 +1,4 @@
--- `state::ring_sound`: in Scanning, in Finishing and outside them, the test of the stored count that is left (`Points`).
+-- In Scanning, in Finishing and outside them, the test of the stored count that is left (`Points`).
 use borrow.Author.Needs.{needs}
 use mathlib.Core.Path.{sym, _∙_}
 use Rattle.sound.proofs.Points.{ring-scanning, ring-finishing, ring-outside}

@@ -1,4 +1,4 @@
--- `words::not_held`: the callees' equations, one after the other.
+-- The callees' equations, one after the other.
 use borrow.Author.Needs.{needs}
 use Rattle.words.proofs.not_held.Statement.{statement}
 use Rattle.words.proofs.not_held.Tie as tie

@@ -1,4 +1,4 @@
--- `line::extra::put_failure`: in each arm the text of its case.
+-- In each arm the text of its case.
 use borrow.Author.Needs.{needs}
 use Rattle.desk_line.proofs.extra.put_failure.Statement.{statement}
 use Rattle.desk_line.proofs.extra.put_failure.Tie as tie

@@ -1,4 +1,4 @@
--- `line::extra::put_tray`: one part behind the other.
+-- One part behind the other.
 use borrow.Author.Needs.{needs}
 use Rattle.desk_text.proofs.Putting.{then}
 use Rattle.desk_line.proofs.extra.put_tray.Statement.{statement}

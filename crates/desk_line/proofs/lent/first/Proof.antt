@@ -1,4 +1,4 @@
--- `line::lent::first`: a list of no more than n elements is its own first n.
+-- A list of no more than n elements is its own first n.
 use mathlib.Core.Path.{sym}
 use native.Mathlib.Omega.{arith}
 use borrow.Author.Needs.{needs}

@@ -1,4 +1,4 @@
--- `line::lent::picture`: what lies behind the head, as far as it goes.
+-- What lies behind the head, as far as it goes.
 use mathlib.Core.Path.{_∙_}
 use borrow.Author.Needs.{needs}
 use Rattle.rules.specs.Moves.{headed}

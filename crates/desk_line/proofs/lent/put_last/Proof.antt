@@ -1,4 +1,4 @@
--- `line::lent::put_last`: one byte or none.
+-- One byte or none.
 use borrow.Author.Needs.{needs}
 use Rattle.desk_text.proofs.Putting.{put-none}
 use Rattle.desk_line.proofs.lent.put_last.Statement.{statement}

@@ -1,4 +1,4 @@
--- `line::lent::put_picture`: the bytes behind the count.
+-- The bytes behind the count.
 use borrow.Author.Needs.{needs}
 use Rattle.desk_text.proofs.Putting.{then}
 use Rattle.desk_line.proofs.lent.put_picture.Statement.{statement}

@@ -1,4 +1,4 @@
--- `feeding::rule::clear`: the test decides which arm the definition takes.
+-- The test decides which arm the definition takes.
 use borrow.Author.Needs.{needs}
 use borrow.Author.Tests.{eq-eqb, ne-eqb}
 use Rattle.feeding.proofs.rule.clear.Statement.{statement}

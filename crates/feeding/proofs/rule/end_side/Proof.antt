@@ -1,4 +1,4 @@
--- `feeding::rule::end_side`: each return is the definition's arm for that state.
+-- Each return is the definition's arm for that state.
 use borrow.Author.Needs.{needs}
 use Rattle.feeding.proofs.rule.end_side.Statement.{statement}
 use Rattle.feeding.proofs.rule.end_side.Tie as tie

@@ -1,4 +1,4 @@
--- `feeding::rule::fed`: each return is the definition's clause for that input.
+-- Each return is the definition's clause for that input.
 use borrow.Author.Needs.{needs}
 use Rattle.rules.specs.Feeder.{fed}
 use Rattle.feeding.proofs.rule.fed.Statement.{statement}

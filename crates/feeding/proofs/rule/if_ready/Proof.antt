@@ -1,4 +1,4 @@
--- `feeding::rule::if_ready`: each return is the definition's arm for that state.
+-- Each return is the definition's arm for that state.
 use borrow.Author.Needs.{needs}
 use Rattle.feeding.proofs.rule.if_ready.Statement.{statement}
 use Rattle.feeding.proofs.rule.if_ready.Tie as tie

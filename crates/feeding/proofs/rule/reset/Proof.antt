@@ -1,4 +1,4 @@
--- `feeding::rule::reset`: each return is the definition's arm for that state.
+-- Each return is the definition's arm for that state.
 use borrow.Author.Needs.{needs}
 use Rattle.feeding.proofs.rule.reset.Statement.{statement}
 use Rattle.feeding.proofs.rule.reset.Tie as tie
