@@ -4,17 +4,17 @@ use mathlib.Core.Bool.{Bool, true, false, not}
 use mathlib.Core.List.{List, [], _∷_}
 use borrow.Author.Tests.{lt-ltb, le-ltb}
 use Rattle.rules.specs.declared.Record.{Record}
-use Rattle.rules.specs.Calls.{Call, Reason, State, Outcome, Line, refuse, leaving, refused, answer}
+use Rattle.rules.specs.Calls.{Call, Reason, State, Outcome, Guard, refuse, leaving, refused, answer}
 
-pub data Leads (s : State) (c : Call) (ok : Outcome) : List Line → Outcome → Type 0 where
+pub data Leads (s : State) (c : Call) (ok : Outcome) : List Guard → Outcome → Type 0 where
   accept : Leads s c ok [] ok
-  hit : {n : Reason} {t : Bool} {ls : List Line} → t ≡ true → Leads s c ok (refuse n t ∷ ls) (refused n (s .box) s c)
-  skip : {n : Reason} {t : Bool} {ls : List Line} {o : Outcome} → t ≡ false → Leads s c ok ls o → Leads s c ok (refuse n t ∷ ls) o
-  hit-leaving : {n : Reason} {t : Bool} {r : Record} {ls : List Line} → t ≡ true → Leads s c ok (leaving n t r ∷ ls) (refused n r s c)
-  skip-leaving : {n : Reason} {t : Bool} {r : Record} {ls : List Line} {o : Outcome} → t ≡ false → Leads s c ok ls o
+  hit : {n : Reason} {t : Bool} {ls : List Guard} → t ≡ true → Leads s c ok (refuse n t ∷ ls) (refused n (s .box) s c)
+  skip : {n : Reason} {t : Bool} {ls : List Guard} {o : Outcome} → t ≡ false → Leads s c ok ls o → Leads s c ok (refuse n t ∷ ls) o
+  hit-leaving : {n : Reason} {t : Bool} {r : Record} {ls : List Guard} → t ≡ true → Leads s c ok (leaving n t r ∷ ls) (refused n r s c)
+  skip-leaving : {n : Reason} {t : Bool} {r : Record} {ls : List Guard} {o : Outcome} → t ≡ false → Leads s c ok ls o
       → Leads s c ok (leaving n t r ∷ ls) o
 
-pub leads : {s : State} {c : Call} {ok o : Outcome} {ls : List Line} → Leads s c ok ls o → o ≡ answer ls s c ok
+pub leads : {s : State} {c : Call} {ok o : Outcome} {ls : List Guard} → Leads s c ok ls o → o ≡ answer ls s c ok
 unfolding answer
 leads accept = refl
 leads (hit e) = rw e

@@ -37,8 +37,8 @@ tick-keeps ws n e f = go (loading ws) refl f
     go Loading.Malformed h g = refl
 
 -- the numbers that a call leaves are the record that it left
-pub left-again : (ws : List ℕ) (r : Record) → ws ≡ kept r → Rattle.host_record.specs.Stored.fitting ws ≡ true → loading ws ≡ Loading.Loads r
-left-again ws r e f = ap loading e ∙ loads-kept r (ap Rattle.host_record.specs.Stored.fitting (sym e) ∙ f)
+pub left-again : (ws : List ℕ) (r : Record) → ws ≡ kept r → Rattle.host_record.specs.Stored.allFit ws ≡ true → loading ws ≡ Loading.Loads r
+left-again ws r e f = ap loading e ∙ loads-kept r (ap Rattle.host_record.specs.Stored.allFit (sym e) ∙ f)
 
 -- where a record is answered its line has room for all of it, with any reply that the desk would lend; so has a bad line
 pub line-whole : (k : ℕ) (s : State) (q : Request) (given reply lines : List ℕ) → length reply ≤ replyRoom → lineRoom ≤ length lines

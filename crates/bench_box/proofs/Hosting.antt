@@ -24,7 +24,7 @@ use Rattle.desk_records.specs.Reading.{headOf, lengthWidth, partOf}
 use Rattle.desk_records.proofs.Admits.{read-places}
 use Rattle.desk_records.proofs.Heard.{heard-record}
 use Rattle.desk_kinds.specs.Kinds.{givenOf}
-use Rattle.desk_stream.specs.Desk.{asks, wrong, heard, callWith, badLine}
+use Rattle.desk_stream.specs.Desk.{calling, wrong, hears, callWith, badLine}
 use Rattle.desk_stream.specs.Window.{Progress, Holds}
 use Rattle.desk_stream.proofs.Hearing.{heard-asking}
 use Rattle.desk_stream.proofs.Replies.{Bare, bare, reply-alike}
@@ -65,8 +65,8 @@ module _ (s : List ℕ) {k start n place : ℕ} {q : Request} (h : hearAt s 0 �
   read-size = let p = read-places s 0 (heard-record s 0 h .0) in omega (arith, p .0, p .1)
 
   pub heard-given : (body : List ℕ) → body ≡ partOf s start n → (given : List ℕ) → given ≡ givenOf k body
-      → heard s ≡ asks k q given (headOf lengthWidth + n)
-  heard-given body b given g = heard-asking s 0 h ∙ ap (λ (x : List ℕ). asks k q x (headOf lengthWidth + n)) (sym (g ∙ ap (givenOf k) b))
+      → hears s ≡ calling k q given (headOf lengthWidth + n)
+  heard-given body b given g = heard-asking s 0 h ∙ ap (λ (x : List ℕ). calling k q x (headOf lengthWidth + n)) (sym (g ∙ ap (givenOf k) b))
 
 pub came-saying : (o : Outcome) (next : Record) (ring reply lines text lines' : List ℕ) (number read end ended : ℕ) → number ≡ o .number
     → stateOf next ring ≡ o .state → Puts lines 0 text end lines'
@@ -82,16 +82,16 @@ module _ (r : Record) (ring reply s : List ℕ) (offset : ℕ) (out : List ℕ) 
     pub once-full : {o : One} → not t ≡ true → o ≡ record { next = r; number = 0; progress = record { read = 0; written = 0; ended = 0 } }
         → came o ring reply out ≡ onceIn r ring reply s offset out
     once-full {o} f eo =
-        stop (leb lineRoom (length out)) t (came o ring reply out) (oneOf (heard s) r ring reply offset out)
+        stop (leb lineRoom (length out)) t (came o ring reply out) (oneOf (hears s) r ring reply offset out)
         (saying (idly r ring) reply out [] 0 0) e f
         (ap (λ (x : One). came x ring reply out) eo ∙ came-saying (idly r ring) r ring reply out [] out 0 0 0 0 refl refl (put-none out 0))
 
     module _ (f : not t ≡ false) where
-      through : {x : Came} → x ≡ oneOf (heard s) r ring reply offset out → x ≡ onceIn r ring reply s offset out
+      through : {x : Came} → x ≡ oneOf (hears s) r ring reply offset out → x ≡ onceIn r ring reply s offset out
       through {x} h =
-          pass (leb lineRoom (length out)) t x (oneOf (heard s) r ring reply offset out) (saying (idly r ring) reply out [] 0 0) e f h
+          pass (leb lineRoom (length out)) t x (oneOf (hears s) r ring reply offset out) (saying (idly r ring) reply out [] 0 0) e f h
 
-      pub once-bad : {o : One} {end : ℕ} {out' : List ℕ} → heard s ≡ wrong → Puts out 0 (badLine offset) end out'
+      pub once-bad : {o : One} {end : ℕ} {out' : List ℕ} → hears s ≡ wrong → Puts out 0 (badLine offset) end out'
           → o ≡ record { next = r; number = 0; progress = record { read = 0; written = end; ended = 1 } }
           → came o ring reply out' ≡ onceIn r ring reply s offset out
       once-bad {o} {end} {out'} h p eo =
@@ -100,7 +100,7 @@ module _ (r : Record) (ring reply s : List ℕ) (offset : ℕ) (out : List ℕ) 
           ∙ came-saying (idly r ring) r ring reply out (badLine offset) out' 0 0 end 1 refl refl p
           ∙ sym (ap (λ x. oneOf x r ring reply offset out) h))
 
-      module _ {k size : ℕ} {q : Request} {given : List ℕ} (h : heard s ≡ asks k q given size) where
+      module _ {k size : ℕ} {q : Request} {given : List ℕ} (h : hears s ≡ calling k q given size) where
         abbrev o : Outcome
         o = step (stateOf r ring) (asked q given reply)
 

@@ -8,8 +8,8 @@ ghost use mathlib.Core.Path.{_≡_};
 ghost use mathlib.Core.Bool.{true};
 ghost use mathlib.Core.List.{[], _∷_};
 ghost use Rattle.rules.specs.Record.{fresh};
-ghost use Rattle.host_record.specs.Stored.{kept, fitting, loading};
-ghost use Rattle.bench_box.specs.Host.{lentBox, tickNumber, tickWords, told, flag, onceIn, serving, performing};
+ghost use Rattle.host_record.specs.Stored.{kept, allFit, loading};
+ghost use Rattle.bench_box.specs.Host.{lentBox, tickNumber, tickWords, answerTo, flag, onceIn, serving, performing};
 ghost use Rattle.bench_box.specs.Held.{came};
 
 const UNSOUND: u16 = 604;
@@ -138,7 +138,7 @@ fn perform(
 #[no_mangle]
 pub extern "C" fn bench_box_fresh(words: &mut [u64; 18])
     ensures { λ _. ⌜ now (words .exit) ≡ kept fresh ⌝ }
-    ensures { λ _. ⌜ fitting (now (words .exit)) ≡ true ⌝ }
+    ensures { λ _. ⌜ allFit (now (words .exit)) ≡ true ⌝ }
 {
     host_record::keep(words, Record::fresh());
 }
@@ -147,7 +147,7 @@ pub extern "C" fn bench_box_fresh(words: &mut [u64; 18])
 pub extern "C" fn bench_box_tick(words: &mut [u64; 18], length: usize) -> u16
     ensures { λ n. ⌜ n ≡ tickNumber length (loading (now (words .entry))) ⌝ }
     ensures { λ _. ⌜ now (words .exit) ≡ tickWords length (now (words .entry)) (loading (now (words .entry))) ⌝ }
-    ensures { λ _. ⌜ (fitting (now (words .entry)) ≡ true → fitting (now (words .exit)) ≡ true) ⌝ }
+    ensures { λ _. ⌜ (allFit (now (words .entry)) ≡ true → allFit (now (words .exit)) ≡ true) ⌝ }
 {
     let loading = host_record::load(words);
     let Loading::Loads(r) = loading else {
@@ -161,7 +161,7 @@ pub extern "C" fn bench_box_tick(words: &mut [u64; 18], length: usize) -> u16
 
 #[no_mangle]
 pub extern "C" fn bench_box_ask(words: &[u64; 18], length: usize, question: usize) -> u64
-    ensures { λ n. ⌜ n ≡ told (now (words .entry)) question (lentBox (now (words .entry)) length) ⌝ }
+    ensures { λ n. ⌜ n ≡ answerTo (now (words .entry)) question (lentBox (now (words .entry)) length) ⌝ }
 {
     let loading = lent(words, length);
     let Loading::Loads(_) = loading else {
@@ -192,7 +192,7 @@ pub extern "C" fn bench_box_serve(
       progress = now (progress .exit);
     }
         ≡ serving (now (words .entry)) (now (ring .entry)) (now (input .entry)) offset last (now (lines .entry)) ⌝ }
-    ensures { λ _. ⌜ (fitting (now (words .entry)) ≡ true → fitting (now (words .exit)) ≡ true) ⌝ }
+    ensures { λ _. ⌜ (allFit (now (words .entry)) ≡ true → allFit (now (words .exit)) ≡ true) ⌝ }
 {
     let loading = lent(words, ring.len());
     let Loading::Loads(r) = loading else {
@@ -230,7 +230,7 @@ pub extern "C" fn bench_box_perform(
       progress = now (progress .exit);
     }
         ≡ performing (now (words .entry)) (now (ring .entry)) (now (reply .entry)) (now (input .entry)) offset (now (line .entry)) ⌝ }
-    ensures { λ _. ⌜ (fitting (now (words .entry)) ≡ true → fitting (now (words .exit)) ≡ true) ⌝ }
+    ensures { λ _. ⌜ (allFit (now (words .entry)) ≡ true → allFit (now (words .exit)) ≡ true) ⌝ }
 {
     let loading = lent(words, ring.len());
     let Loading::Loads(r) = loading else {

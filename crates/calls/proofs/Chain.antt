@@ -3,7 +3,7 @@ use mathlib.Core.Path.{_≡_, refl, sym, ap, _∙_, subst}
 use mathlib.Core.List.{List, _∷_}
 use Rattle.rules.specs.Calls.{Call, State, Outcome}
 use Rattle.rules.specs.Machine.{step, Ran, run, runBy}
-use Rattle.calls.specs.Listed.{Performed, over, next}
+use Rattle.calls.specs.Listed.{Performed, performed-none, performed-one}
 
 -- one outcome before a run
 abbrev behind : Outcome → Ran → Ran
@@ -11,8 +11,8 @@ behind o x = record { outcomes = o ∷ x .outcomes; end = x .end }
 
 pub chained : {s t : State} {cs : List Call} {os : List Outcome} → Performed s cs os t → run s cs ≡ record { outcomes = os; end = t }
 unfolding runBy
-chained over = refl
-chained (next {s} {t} {c} {o} {cs} {os} e p) =
+chained performed-none = refl
+chained (performed-one {s} {t} {c} {o} {cs} {os} e p) =
     let whole : Ran = record { outcomes = os; end = t } in
     let rest : run (step s c .state) cs ≡ whole = subst (λ (x : Outcome). run (x .state) cs ≡ whole) e (chained p) in
     ap (behind (step s c)) rest ∙ ap (λ (x : Outcome). behind x whole) (sym e)

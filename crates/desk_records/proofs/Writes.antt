@@ -9,7 +9,7 @@ use lib.Dec.{leb}
 use lib.ListN.{length, length-append}
 use borrow.Author.Tests.{leb-true, le-leb}
 use Rattle.answers.specs.declared.Why.{Why}
-use Rattle.desk_text.specs.Put.{Puts, over}
+use Rattle.desk_text.specs.Put.{Puts, overlaid}
 use Rattle.desk_text.proofs.Putting.{then, moved, whole-next, whole-stands}
 use Rattle.desk_kinds.specs.Kinds.{limitsOf, within}
 use Rattle.desk_records.specs.declared.Written.{Written}
@@ -38,7 +38,7 @@ module _ (m w k : ℕ) (p : List ℕ) {o o₁ : List ℕ} {r : ℕ} (h : headOf 
   pub record-next : Written.Length r ≡ Written.Length (headOf w + length p)
   record-next = ap Written.Length (whole-next (omega (arith, record-length m w k p)) q ∙ omega (arith, record-length m w k p))
 
-  pub record-stands : o₁ ≡ over o 0 (recordWith m w k p)
+  pub record-stands : o₁ ≡ overlaid o 0 (recordWith m w k p)
   record-stands = whole-stands (omega (arith, record-length m w k p)) q
 
 -- ---- an accepted record is listed and has room

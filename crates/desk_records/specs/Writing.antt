@@ -7,7 +7,7 @@ use lib.Dec.{leb}
 use Rattle.rules.specs.Calls.{numberOf}
 use Rattle.answers.specs.declared.Why.{Why}
 use Rattle.answers.specs.Told.{reasonOf}
-use Rattle.desk_text.specs.Put.{over}
+use Rattle.desk_text.specs.Put.{overlaid}
 use Rattle.desk_kinds.specs.Kinds.{limitsOf, within}
 use Rattle.desk_records.specs.declared.Written.{Written}
 use Rattle.desk_records.specs.Reading.{firstMark, secondMark, lengthWidth, headOf}
@@ -34,7 +34,7 @@ writing w k p room =
 -- the front of the buffer is filled; a refusal leaves it as it was
 abbrev pub frontFilled : Written → List ℕ → List ℕ → List ℕ
 frontFilled (Written.Refused why) text out = out
-frontFilled (Written.Length n) text out = over out 0 text
+frontFilled (Written.Length n) text out = overlaid out 0 text
 
 -- the paper's number and value of each case
 abbrev pub numberIn : Written → ℕ

@@ -17,28 +17,28 @@ use Rattle.desk_records.proofs.Admits.{front-inside, whole-at, read-places}
 use Rattle.desk_records.proofs.Heard.{heard-record, heard-none}
 use Rattle.desk_kinds.specs.declared.Asking.{Asking}
 use Rattle.desk_kinds.specs.Kinds.{askingOf, givenOf}
-use Rattle.desk_stream.specs.Desk.{asks, wrong, heardAs, heardIn, payloadOf, heard}
+use Rattle.desk_stream.specs.Desk.{calling, wrong, hearsAs, hearsIn, payloadOf, hears}
 
 abbrev pub fronted : List ℕ → Front
 fronted s = front secondMark lengthWidth s
 
-pub heard-front : (s : List ℕ) (f : Front) → fronted s ≡ f → heard s ≡ heardIn s f
-unfolding heard
-heard-front s f e = ap (heardIn s) e
+pub heard-front : (s : List ℕ) (f : Front) → fronted s ≡ f → hears s ≡ hearsIn s f
+unfolding hears
+heard-front s f e = ap (hearsIn s) e
 
 same-payload : (s t : List ℕ) (n : ℕ) → headOf lengthWidth + n ≤ length s → payloadOf (s ++ t) n ≡ payloadOf s n
 same-payload s t n h =
     ap (take n) (drop-append-le (headOf lengthWidth) s t (omega arith))
     ∙ take-append-le n (drop (headOf lengthWidth) s) t (omega (arith, length-drop (headOf lengthWidth) s))
 
-stays : (s t : List ℕ) (f : Front) → fronted s ≡ f → fronted (s ++ t) ≡ f → heard (s ++ t) ≡ heard s
+stays : (s t : List ℕ) (f : Front) → fronted s ≡ f → fronted (s ++ t) ≡ f → hears (s ++ t) ≡ hears s
 stays s t (Front.Whole k n) e g =
     heard-front (s ++ t) (Front.Whole k n) g
-    ∙ ap (λ (p : List ℕ). heardAs k p (headOf lengthWidth + n) (askingOf k p)) (same-payload s t n (front-inside secondMark lengthWidth s e))
+    ∙ ap (λ (p : List ℕ). hearsAs k p (headOf lengthWidth + n) (askingOf k p)) (same-payload s t n (front-inside secondMark lengthWidth s e))
     ∙ sym (heard-front s (Front.Whole k n) e)
 stays s t (Front.Wrong fault i) e g = heard-front (s ++ t) (Front.Wrong fault i) g ∙ sym (heard-front s (Front.Wrong fault i) e)
 
-pub heard-stable : (s t : List ℕ) → cut (fronted s) ≡ false → heard (s ++ t) ≡ heard s
+pub heard-stable : (s t : List ℕ) → cut (fronted s) ≡ false → hears (s ++ t) ≡ hears s
 heard-stable s t c = stays s t (fronted s) refl (front-stable secondMark lengthWidth s t c)
 
 -- a record that asks is whole, and has its head at least
@@ -47,38 +47,38 @@ pub record Whole (s : List ℕ) (size : ℕ) : Type 0 where
   pub some : 0 < size
   pub inside : size ≤ length s
 
-asks-whole : (s : List ℕ) (f : Front) {k : ℕ} {q : Request} {given : List ℕ} {size : ℕ} → fronted s ≡ f → heardIn s f ≡ asks k q given size
+asks-whole : (s : List ℕ) (f : Front) {k : ℕ} {q : Request} {given : List ℕ} {size : ℕ} → fronted s ≡ f → hearsIn s f ≡ calling k q given size
     → Whole s size
 asks-whole s (Front.Whole k n) e h = go (askingOf k (payloadOf s n)) h
   where
     go : (a : Asking) {j : ℕ} {q : Request} {given : List ℕ} {size : ℕ}
-        → heardAs k (payloadOf s n) (headOf lengthWidth + n) a ≡ asks j q given size → Whole s size
+        → hearsAs k (payloadOf s n) (headOf lengthWidth + n) a ≡ calling j q given size → Whole s size
     go (Asking.Asks r) {j} {q} {given} {size} h =
         let long : headOf lengthWidth + n ≡ size = cc in
         record { uncut = ap cut e; some = omega arith; inside = omega (arith, front-inside secondMark lengthWidth s e) }
     go Asking.Unlisted h = let z : _≡_ {A = ℕ} 0 1 = cc in absurd (omega arith)
 asks-whole s (Front.Wrong fault i) e h = let z : _≡_ {A = ℕ} 0 1 = cc in absurd (omega arith)
 
-pub heard-whole : (s : List ℕ) {k : ℕ} {q : Request} {given : List ℕ} {size : ℕ} → heard s ≡ asks k q given size → Whole s size
+pub heard-whole : (s : List ℕ) {k : ℕ} {q : Request} {given : List ℕ} {size : ℕ} → hears s ≡ calling k q given size → Whole s size
 heard-whole s h = asks-whole s (fronted s) refl (sym (heard-front s (fronted s) refl) ∙ h)
 
 -- ---- by what reading at a place answered
 module _ (s : List ℕ) (at : ℕ) where
   -- a record and what it asks
   pub heard-asking : {k start n next : ℕ} {q : Request} → hearAt s at ≡ Hearing.Record k q start n next
-      → heard (drop at s) ≡ asks k q (givenOf k (partOf s start n)) (headOf lengthWidth + n)
+      → hears (drop at s) ≡ calling k q (givenOf k (partOf s start n)) (headOf lengthWidth + n)
   heard-asking {k} {start} {n} h =
       let e = heard-record s at h .0 in
       heard-front (drop at s) (Front.Whole k n) (whole-at secondMark lengthWidth s at e)
-      ∙ ap (λ (p : List ℕ). heardAs k p (headOf lengthWidth + n) (askingOf k p)) (sym (read-places s at e .4))
-      ∙ ap (heardAs k (partOf s start n) (headOf lengthWidth + n)) (heard-record s at h .1)
+      ∙ ap (λ (p : List ℕ). hearsAs k p (headOf lengthWidth + n) (askingOf k p)) (sym (read-places s at e .4))
+      ∙ ap (hearsAs k (partOf s start n) (headOf lengthWidth + n)) (heard-record s at h .1)
 
-  unread : (f : Front) {place : ℕ} → fronted (drop at s) ≡ f → placed lengthWidth at f ≡ Reading.Bad place → heard (drop at s) ≡ wrong
+  unread : (f : Front) {place : ℕ} → fronted (drop at s) ≡ f → placed lengthWidth at f ≡ Reading.Bad place → hears (drop at s) ≡ wrong
   unfolding placed
   unread (Front.Whole k n) e h = let z : _≡_ {A = ℕ} 0 1 = cc in absurd (omega arith)
   unread (Front.Wrong fault i) e h = heard-front (drop at s) (Front.Wrong fault i) e
 
   -- or nothing that reads
-  pub heard-bad : {place : ℕ} → hearAt s at ≡ Hearing.Bad place → heard (drop at s) ≡ wrong
+  pub heard-bad : {place : ℕ} → hearAt s at ≡ Hearing.Bad place → hears (drop at s) ≡ wrong
   unfolding readWith
   heard-bad h = unread (fronted (drop at s)) refl (heard-none s at h)

@@ -8,7 +8,7 @@ use Rattle.rules.specs.Calls.{Call, State}
 use Rattle.rules.specs.Machine.{step, runBy, run}
 use Rattle.answers.specs.declared.Request.{Request}
 use Rattle.desk_line.specs.Line.{lineFor}
-use Rattle.desk_stream.specs.Desk.{Heard, asks, wrong, heard, callOf, Input, ends, before, badAt, readOn, readFrom, badText, endText, linesOf, printed}
+use Rattle.desk_stream.specs.Desk.{Heard, calling, wrong, hears, deskCall, Input, ends, before, badAt, readOn, readFrom, badText, endText, linesOf, printed}
 
 -- what is printed from an offset on, for a box
 abbrev pub textFrom : State → ℕ → List ℕ → List ℕ
@@ -25,7 +25,7 @@ unfolding readFrom printed runBy
 nothing-left box at [] e = refl
 nothing-left box at (b ∷ s) e = absurd (omega arith)
 
-reads : (at b : ℕ) (s : List ℕ) (h : Heard) → heard (b ∷ s) ≡ h → readFrom 0 at (b ∷ s) ≡ readOn h at (λ skip next. readFrom skip next s)
+reads : (at b : ℕ) (s : List ℕ) (h : Heard) → hears (b ∷ s) ≡ h → readFrom 0 at (b ∷ s) ≡ readOn h at (λ skip next. readFrom skip next s)
 unfolding readFrom
 reads at b s h e = let rest : ℕ → ℕ → Input = λ skip next. readFrom skip next s in ap (λ (x : Heard). readOn x at rest) e
 
@@ -38,18 +38,18 @@ unfolding printed runBy
 printed-end box at = refl
 
 pub one-more : (box : State) (at : ℕ) (s : List ℕ) (k : ℕ) (q : Request) (given : List ℕ) (size : ℕ) → 0 < length s
-    → heard s ≡ asks k q given size → 0 < size
-    → textFrom box at s ≡ lineFor k (step box (callOf q given)) ++ textFrom (step box (callOf q given) .state) (at + size) (drop size s)
+    → hears s ≡ calling k q given size → 0 < size
+    → textFrom box at s ≡ lineFor k (step box (deskCall q given)) ++ textFrom (step box (deskCall q given) .state) (at + size) (drop size s)
 one-more box at [] k q given size h e g = absurd (omega arith)
 one-more box at (b ∷ s) k q given zero h e g = absurd (omega arith)
 one-more box at (b ∷ s) k q given (suc size) h e g =
-    let c = callOf q given in
+    let c = deskCall q given in
     let rest : suc size - 1 ≡ size = omega arith in
-    ap (printed box) (reads at b s (asks k q given (suc size)) e)
+    ap (printed box) (reads at b s (calling k q given (suc size)) e)
     ∙ printed-before box k c (readFrom (suc size - 1) (at + suc size) s)
     ∙ ap (λ (n : ℕ). lineFor k (step box c) ++ printed (step box c .state) (readFrom n (at + suc size) s)) rest
     ∙ ap (λ (i : Input). lineFor k (step box c) ++ printed (step box c .state) i) (skipped size (at + suc size) s)
 
-pub one-bad : (box : State) (at : ℕ) (s : List ℕ) → 0 < length s → heard s ≡ wrong → textFrom box at s ≡ badText at
+pub one-bad : (box : State) (at : ℕ) (s : List ℕ) → 0 < length s → hears s ≡ wrong → textFrom box at s ≡ badText at
 one-bad box at [] h e = absurd (omega arith)
 one-bad box at (b ∷ s) h e = ap (printed box) (reads at b s wrong e) ∙ printed-end box at

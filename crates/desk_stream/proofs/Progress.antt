@@ -16,8 +16,8 @@ use Rattle.desk_kinds.specs.Kinds.{limitsOf, isListed, within}
 use Rattle.desk_records.specs.Reading.{firstMark, secondMark, lengthWidth, lengthAt, headOf, lengthIn, expect, sized, front, cut}
 use Rattle.desk_kinds.proofs.Entries.{listed-short}
 use Rattle.desk_line.specs.Line.{lineRoom}
-use Rattle.desk_stream.specs.Desk.{Heard, asks, wrong, heard, callOf}
-use Rattle.desk_stream.specs.Window.{Progress, begun, answered, broken, waits, roomy, served}
+use Rattle.desk_stream.specs.Desk.{Heard, calling, wrong, hears, deskCall}
+use Rattle.desk_stream.specs.Window.{Progress, outset, answered, broken, waits, roomy, served}
 use Rattle.desk_stream.proofs.Turns.{turns, no-room, another, none}
 use Rattle.desk_stream.proofs.Hearing.{fronted, heard-whole}
 
@@ -64,14 +64,14 @@ module _ (base : ℕ) (last : Bool) (room : ℕ) where
     to : (q : Progress) → served base last room 0 p (b ∷ w) ≡ q → p .place ≤ q .place → p .place ≤ served base last room 0 p (b ∷ w) .place
     to q e h = subst (λ (x : Progress). p .place ≤ x .place) (sym e) h
 
-    by-heard : roomy base last room p ≡ true → (h : Heard) → heard (b ∷ w) ≡ h → p .place ≤ served base last room 0 p (b ∷ w) .place
-    by-heard r (asks k q given size) h =
-        let p' = answered k (step (p .box) (callOf q given)) size p in
-        to _ (turns base last room p b w (asks k q given size) r h) (omega (arith, next (size - 1) p'))
+    by-heard : roomy base last room p ≡ true → (h : Heard) → hears (b ∷ w) ≡ h → p .place ≤ served base last room 0 p (b ∷ w) .place
+    by-heard r (calling k q given size) h =
+        let p' = answered k (step (p .box) (deskCall q given)) size p in
+        to _ (turns base last room p b w (calling k q given size) r h) (omega (arith, next (size - 1) p'))
     by-heard r wrong h = to _ (turns base last room p b w wrong r h) (same-place (waits base last room (b ∷ w)) p)
 
     by-room : (r : Bool) → roomy base last room p ≡ r → p .place ≤ served base last room 0 p (b ∷ w) .place
-    by-room true r = by-heard r (heard (b ∷ w)) refl
+    by-room true r = by-heard r (hears (b ∷ w)) refl
     by-room false r = to p (no-room base last room p (b ∷ w) r) (le-refl (p .place))
 
   grows : (w : List ℕ) → Grown w
@@ -101,19 +101,19 @@ module _ (base : ℕ) (last : Bool) (room : ℕ) where
   waits-not w (long h) = ap (λ (c : Bool). c && not last) (never-cut w h)
 
   module _ (box : State) (w : List ℕ) (r : lineRoom ≤ room) (some : 0 < length w) (e : Enough w) where
-    room-left : roomy base last room (begun box) ≡ true
+    room-left : roomy base last room (outset box) ≡ true
     room-left = le-leb (0 + lineRoom) room (omega arith)
 
-    by-what : (h : Heard) → heard w ≡ h → Moves (served base last room 0 (begun box) w)
-    by-what (asks k q given size) h =
-        let p = answered k (step box (callOf q given)) size (begun box) in
+    by-what : (h : Heard) → hears w ≡ h → Moves (served base last room 0 (outset box) w)
+    by-what (calling k q given size) h =
+        let p = answered k (step box (deskCall q given)) size (outset box) in
         let s = heard-whole w h .some in
-        let same = another base last room (begun box) w some room-left k q given size h s in
+        let same = another base last room (outset box) w some room-left k q given size h s in
         on (subst (λ (x : Progress). 0 < x .place) (sym same) (omega (arith, grows (drop size w) 0 p)))
     by-what wrong h =
         over
-        (ap (λ (x : Progress). x .ended) (none base last room (begun box) w some room-left h)
-        ∙ ap (λ (b : Bool). cond b (begun box) (broken base last room (begun box)) .ended) (waits-not w e))
+        (ap (λ (x : Progress). x .ended) (none base last room (outset box) w some room-left h)
+        ∙ ap (λ (b : Bool). cond b (outset box) (broken base last room (outset box)) .ended) (waits-not w e))
 
-    pub never-stuck : Moves (served base last room 0 (begun box) w)
-    never-stuck = by-what (heard w) refl
+    pub never-stuck : Moves (served base last room 0 (outset box) w)
+    never-stuck = by-what (hears w) refl

@@ -5,7 +5,7 @@ use mathlib.Core.Path.{_≡_, refl, sym, ap, _∙_}
 use mathlib.Core.Bool.{true, false}
 use mathlib.Core.List.{List, [], _∷_}
 use lib.ListN.{length, replicate, length-replicate}
-use Rattle.rules.specs.Calls.{Values, State, Outcome, Line, refuse, leaving, Call}
+use Rattle.rules.specs.Calls.{Values, State, Outcome, Guard, refuse, leaving, Call}
 use Rattle.rules.specs.Calls.{answer, scan, Fetch, lent}
 use Rattle.rules.specs.Machine.{step, refusals, scanRefusals, effect, scanEffect}
 use Rattle.answers.specs.declared.Request.{Request}
@@ -16,7 +16,7 @@ use Rattle.answers.proofs.Lending.{Lending, fetches, lends-none, lending, lent-
 use Rattle.desk_text.specs.Put.{Puts}
 use Rattle.desk_text.proofs.Putting.{moved}
 use Rattle.desk_line.specs.Line.{lineOf, lineFor}
-use Rattle.desk_stream.specs.Desk.{replyRoom, callWith, callOf}
+use Rattle.desk_stream.specs.Desk.{replyRoom, callWith, deskCall}
 
 -- an outcome but for the reply
 pub record Bare : Type 0 where
@@ -27,7 +27,7 @@ pub record Bare : Type 0 where
 abbrev pub bare : Outcome → Bare
 bare o = record { number = o .number; values = o .values; state = o .state }
 
-bare-answer : (ls : List Line) (s : State) (c d : Call) (o p : Outcome) → bare o ≡ bare p → bare (answer ls s c o) ≡ bare (answer ls s d p)
+bare-answer : (ls : List Guard) (s : State) (c d : Call) (o p : Outcome) → bare o ≡ bare p → bare (answer ls s c o) ≡ bare (answer ls s d p)
 unfolding answer
 bare-answer [] s c d o p e = e
 bare-answer (refuse n true ∷ ls) s c d o p e = refl
@@ -73,5 +73,5 @@ module _ (s : State) (q : Request) (given reply after ring : List ℕ) (a : Afte
   pub answered-number : {number : ℕ} → number ≡ numberTold (a .answer) → number ≡ step s (callWith (length reply) q given) .number
   answered-number f = f ∙ ap (λ (b : Bare). b .number) told
 
-pub lent-room : (q : Request) (given : List ℕ) → length (lent (callOf q given)) ≤ replyRoom
+pub lent-room : (q : Request) (given : List ℕ) → length (lent (deskCall q given)) ≤ replyRoom
 lent-room q given = omega (arith, lent-within q given (replicate replyRoom 0), length-replicate {A = ℕ} replyRoom 0)

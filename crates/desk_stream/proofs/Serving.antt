@@ -26,8 +26,8 @@ use Rattle.desk_records.specs.Hearing.{hearAt}
 use Rattle.desk_kinds.specs.Kinds.{givenOf}
 use Rattle.desk_line.specs.Line.{lineFor, lineRoom}
 use Rattle.desk_line.proofs.Bound.{step-bound}
-use Rattle.desk_stream.specs.Desk.{asks, wrong, heard, replyRoom, callWith, callOf, badLine, badText}
-use Rattle.desk_stream.specs.Window.{Progress, begun, broken, served, Holds}
+use Rattle.desk_stream.specs.Desk.{calling, wrong, hears, replyRoom, callWith, deskCall, badLine, badText}
+use Rattle.desk_stream.specs.Window.{Progress, outset, broken, served, Holds}
 use Rattle.desk_stream.proofs.Turns.{at-end, no-room, another, none}
 use Rattle.desk_stream.proofs.Hearing.{heard-asking}
 use Rattle.desk_stream.proofs.Replies.{lent-room}
@@ -70,7 +70,7 @@ come next ring at text = stood (stateOf next ring) at text
 pub record Serving (s : List ℕ) (base : ℕ) (last : Bool) (ring₀ reply₀ out₀ : List ℕ) (next₀ : Record) (ring reply out : List ℕ) (next : Record)
     (at filled : ℕ) : Type 0 where
   pub text : List ℕ
-  pub so : served base last (length out₀) 0 (begun (stateOf next₀ ring₀)) s ≡ served base last (length out₀) 0 (come next ring at text) (drop at s)
+  pub so : served base last (length out₀) 0 (outset (stateOf next₀ ring₀)) s ≡ served base last (length out₀) 0 (come next ring at text) (drop at s)
   pub puts : Puts out₀ 0 text filled out
   pub fits : length text ≤ length out₀
   pub inside : at ≤ length s
@@ -96,7 +96,7 @@ module _ {s : List ℕ} {base : ℕ} {last : Bool} {ring₀ reply₀ out₀ : Li
 
   module _ {ring reply out : List ℕ} {next : Record} {at filled : ℕ} (here : Serving s base last ring₀ reply₀ out₀ next₀ ring reply out next at filled) where
     abbrev whole : Progress
-    whole = served base last (length out₀) 0 (begun (stateOf next₀ ring₀)) s
+    whole = served base last (length out₀) 0 (outset (stateOf next₀ ring₀)) s
 
     filling : filled ≡ length (here .text)
     filling = whole-next (omega (arith, here .fits)) (here .puts) ∙ zero-add (length (here .text))
@@ -154,7 +154,7 @@ module _ {s : List ℕ} {base : ℕ} {last : Bool} {ring₀ reply₀ out₀ : Li
       stopped true = ap (come next ring at) (sym (append-nil (here .text)))
       stopped false = refl
 
-      pub serving-stops : heard (drop at s) ≡ wrong → (next' : Record) (at' filled' : ℕ) (ended : Bool) (out' : List ℕ) → next' ≡ next → at' ≡ at
+      pub serving-stops : hears (drop at s) ≡ wrong → (next' : Record) (at' filled' : ℕ) (ended : Bool) (out' : List ℕ) → next' ≡ next → at' ≡ at
           → ended ≡ not (cutAt s at && not last) → Puts out filled (cond (cutAt s at && not last) [] (badText (base + at))) filled' out'
           → Holds whole s out₀ next' ring at' filled' out' ended
       serving-stops h next' at' filled' ended out' en ea ee p =
@@ -179,12 +179,12 @@ module _ {s : List ℕ} {base : ℕ} {last : Bool} {ring₀ reply₀ out₀ : Li
             → length ring' ≡ length ring → length reply' ≡ length reply
             → Serving s base last ring₀ reply₀ out₀ next₀ ring' reply' out' next' place filled'
         serving-again body eb given eg next' ring' reply' out' filled' es ep el em =
-            let o = step (stateOf next ring) (callOf q given) in
+            let o = step (stateOf next ring) (deskCall q given) in
             let p = come next ring at (here .text) in
             let long = headOf lengthWidth + n in
             let text' : List ℕ = here .text ++ lineFor k o in
-            let hears : heard (drop at s) ≡ asks k q given long =
-            heard-asking s at h ∙ ap (λ (g : List ℕ). asks k q g long) (sym (eg ∙ ap (givenOf k) eb)) in
+            let hears : hears (drop at s) ≡ calling k q given long =
+            heard-asking s at h ∙ ap (λ (g : List ℕ). calling k q g long) (sym (eg ∙ ap (givenOf k) eb)) in
             let state : o .state ≡ stateOf next' ring' = sym (es ∙ ap (λ (m : ℕ). step (stateOf next ring) (callWith m q given) .state) (here .lends)) in
             let on : at + long ≡ place = omega (arith, read-places s at er) in
             record {
@@ -196,7 +196,7 @@ module _ {s : List ℕ} {base : ℕ} {last : Bool} {ring₀ reply₀ out₀ : Li
                   ∙ ap (served base last (length out₀) 0 (come next' ring' (at + long) text')) (drop-drop long at s)
                   ∙ ap (λ (m : ℕ). served base last (length out₀) 0 (come next' ring' m text') (drop m s)) on;
               puts = then (here .puts) (moved ep (ap (λ (m : ℕ). lineFor k (step (stateOf next ring) (callWith m q given))) (here .lends)));
-              fits = simp length-append (omega (arith, roomy, step-bound k (stateOf next ring) (callOf q given) (lent-room q given)));
+              fits = simp length-append (omega (arith, roomy, step-bound k (stateOf next ring) (deskCall q given) (lent-room q given)));
               inside = read-places s at er .2;
               outLong = size ep ∙ here .outLong;
               ringLong = el ∙ here .ringLong;

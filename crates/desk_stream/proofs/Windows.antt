@@ -11,8 +11,8 @@ use Rattle.rules.specs.Machine.{step, start}
 use Rattle.answers.specs.declared.Request.{Request}
 use Rattle.desk_records.specs.Reading.{cut}
 use Rattle.desk_line.specs.Line.{lineFor}
-use Rattle.desk_stream.specs.Desk.{Heard, asks, wrong, heard, callOf, badLine, badText, ringRoom, deskText}
-use Rattle.desk_stream.specs.Window.{Progress, begun, answered, broken, roomy, served}
+use Rattle.desk_stream.specs.Desk.{Heard, calling, wrong, hears, deskCall, badLine, badText, ringRoom, deskText}
+use Rattle.desk_stream.specs.Window.{Progress, outset, answered, broken, roomy, served}
 use Rattle.desk_stream.specs.Runs.{Prints, bad, end, more}
 use Rattle.desk_stream.proofs.Turns.{turns, no-room}
 use Rattle.desk_stream.proofs.Input.{textFrom, nothing-left, one-more, one-bad}
@@ -67,11 +67,11 @@ module _ (base from : ℕ) (same : base ≡ from % 2 ^ 64) (last : Bool) (room :
     here = b ∷ w
 
     -- a record, and then what the rest leads to
-    heard-one : (k : ℕ) (r : Request) (given : List ℕ) (size : ℕ) → heard here ≡ asks k r given size → (q : Progress)
-        → Leads (answered k (step (p .box) (callOf r given)) size p) q (size - 1) w → Leads p q 0 here
+    heard-one : (k : ℕ) (r : Request) (given : List ℕ) (size : ℕ) → hears here ≡ calling k r given size → (q : Progress)
+        → Leads (answered k (step (p .box) (deskCall r given)) size p) q (size - 1) w → Leads p q 0 here
     heard-one k r given zero h q l = absurd (omega (arith, heard-whole here h .some))
     heard-one k r given (suc m) h q l =
-        let o = step (p .box) (callOf r given) in
+        let o = step (p .box) (deskCall r given) in
         let less : m ≡ suc m - 1 = omega arith in
         let on : suc (suc m - 1 + l .far) ≡ 0 + (suc m + l .far) = omega arith in
         record {
@@ -89,7 +89,7 @@ module _ (base from : ℕ) (same : base ≡ from % 2 ^ 64) (last : Bool) (room :
               ∙ ap (λ (n : ℕ). (lineFor k o ++ l .more) ++ still q (drop n (here ++ v))) on;
         }
 
-    broke : heard (here ++ v) ≡ wrong → Leads p (broken base last room p) 0 here
+    broke : hears (here ++ v) ≡ wrong → Leads p (broken base last room p) 0 here
     broke h =
         record {
           more = badText (base + p .place);
@@ -102,11 +102,11 @@ module _ (base from : ℕ) (same : base ≡ from % 2 ^ 64) (last : Bool) (room :
               ∙ sym (append-nil (badText (base + p .place)));
         }
 
-    none-heard : heard here ≡ wrong → p .ended ≡ false → (c l : Bool) → cut (fronted here) ≡ c → last ≡ l
+    none-heard : hears here ≡ wrong → p .ended ≡ false → (c l : Bool) → cut (fronted here) ≡ c → last ≡ l
         → Leads p (cond (c && not l) p (broken base last room p)) 0 here
     none-heard h e false l f g = broke (heard-stable here v f ∙ h)
     none-heard h e true false f g = stay p 0 here e
-    none-heard h e true true f g = broke (ap (λ (t : List ℕ). heard (here ++ t)) (no-more g) ∙ ap heard (append-nil here) ∙ h)
+    none-heard h e true true f g = broke (ap (λ (t : List ℕ). hears (here ++ t)) (no-more g) ∙ ap hears (append-nil here) ∙ h)
 
   abbrev Led : List ℕ → Type 0
   Led w = (skip : ℕ) (p : Progress) → p .ended ≡ false → Leads p (served base last room skip p w) skip w
@@ -115,15 +115,15 @@ module _ (base from : ℕ) (same : base ≡ from % 2 ^ 64) (last : Bool) (room :
     to : (q : Progress) → served base last room 0 p (b ∷ w) ≡ q → Leads p q 0 (b ∷ w) → Leads p (served base last room 0 p (b ∷ w)) 0 (b ∷ w)
     to q f l = subst (λ (x : Progress). Leads p x 0 (b ∷ w)) (sym f) l
 
-    by-heard : roomy base last room p ≡ true → (h : Heard) → heard (b ∷ w) ≡ h → Leads p (served base last room 0 p (b ∷ w)) 0 (b ∷ w)
-    by-heard r (asks k q given size) h =
-        let p' = answered k (step (p .box) (callOf q given)) size p in
-        to _ (turns base last room p b w (asks k q given size) r h)
+    by-heard : roomy base last room p ≡ true → (h : Heard) → hears (b ∷ w) ≡ h → Leads p (served base last room 0 p (b ∷ w)) 0 (b ∷ w)
+    by-heard r (calling k q given size) h =
+        let p' = answered k (step (p .box) (deskCall q given)) size p in
+        to _ (turns base last room p b w (calling k q given size) r h)
         (heard-one p b w k q given size h (served base last room (size - 1) p' w) (next (size - 1) p' refl))
     by-heard r wrong h = to _ (turns base last room p b w wrong r h) (none-heard p b w h e (cut (fronted (b ∷ w))) last refl refl)
 
     by-room : (r : Bool) → roomy base last room p ≡ r → Leads p (served base last room 0 p (b ∷ w)) 0 (b ∷ w)
-    by-room true r = by-heard r (heard (b ∷ w)) refl
+    by-room true r = by-heard r (hears (b ∷ w)) refl
     by-room false r = to p (no-room base last room p (b ∷ w) r) (stay p 0 (b ∷ w) e)
 
   leads : (w : List ℕ) → Led w
@@ -134,11 +134,11 @@ module _ (base from : ℕ) (same : base ≡ from % 2 ^ 64) (last : Bool) (room :
 
   pub window-joined : (box : State) (w : List ℕ)
       → textFrom box from (w ++ v)
-      ≡ served base last room 0 (begun box) w .text
-      ++ still (served base last room 0 (begun box) w) (drop (served base last room 0 (begun box) w .place) (w ++ v))
+      ≡ served base last room 0 (outset box) w .text
+      ++ still (served base last room 0 (outset box) w) (drop (served base last room 0 (outset box) w .place) (w ++ v))
   window-joined box w =
-      let q = served base last room 0 (begun box) w in
-      let l = leads w 0 (begun box) refl in
+      let q = served base last room 0 (outset box) w in
+      let l = leads w 0 (outset box) refl in
       ap (λ (n : ℕ). textFrom box n (w ++ v)) (sym (add-zero from))
       ∙ l .whole
       ∙ ap (λ (t : List ℕ). t ++ still q (drop (0 + l .far) (w ++ v))) (sym (l .text))
@@ -147,11 +147,11 @@ module _ (base from : ℕ) (same : base ≡ from % 2 ^ 64) (last : Bool) (room :
 -- ---- however the input is cut into windows
 pub printed-whole : {box : State} {at : ℕ} {input text : List ℕ} → Prints box at input text → text ≡ textFrom box at input
 printed-whole {box} {at} (bad w v last base room e nm f) =
-    let q = served base last room 0 (begun box) w in
+    let q = served base last room 0 (outset box) w in
     let rest = textFrom (q .box) (at + q .place) (drop (q .place) (w ++ v)) in
     sym (window-joined base at e last room v nm box w ∙ ap (λ (b : Bool). q .text ++ cond b [] rest) f ∙ append-nil (q .text))
 printed-whole {box} {at} (end w last base room e f g) =
-    let q = served base last room 0 (begun box) w in
+    let q = served base last room 0 (outset box) w in
     let rest : List ℕ = textFrom (q .box) (at + q .place) (drop (q .place) (w ++ [])) in
     let over : length (drop (q .place) (w ++ [])) ≡ 0 = omega (arith, length-drop (q .place) (w ++ []), length-append w []) in
     sym
@@ -161,7 +161,7 @@ printed-whole {box} {at} (end w last base room e f g) =
     ∙ ap (λ (t : List ℕ). q .text ++ t) (nothing-left (q .box) (at + q .place) (drop (q .place) (w ++ [])) over)
     ∙ append-nil (q .text))
 printed-whole {box} {at} (more w v last base room e nm f p) =
-    let q = served base last room 0 (begun box) w in
+    let q = served base last room 0 (outset box) w in
     let rest : List ℕ = textFrom (q .box) (at + q .place) (drop (q .place) (w ++ v)) in
     sym
     (window-joined base at e last room v nm box w

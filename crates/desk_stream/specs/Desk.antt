@@ -16,23 +16,23 @@ use Rattle.desk_line.specs.Line.{lineFor}
 -- ---- one record
 -- its kind, what it asks, the bytes that go with it, and its length in all; or nothing that reads
 pub data Heard : Type 0 where
-  asks : ℕ → Request → List ℕ → ℕ → Heard
+  calling : ℕ → Request → List ℕ → ℕ → Heard
   wrong : Heard
 
-abbrev pub heardAs : ℕ → List ℕ → ℕ → Asking → Heard
-heardAs k p size (Asking.Asks q) = asks k q (givenOf k p) size
-heardAs k p size Asking.Unlisted = wrong
+abbrev pub hearsAs : ℕ → List ℕ → ℕ → Asking → Heard
+hearsAs k p size (Asking.Asks q) = calling k q (givenOf k p) size
+hearsAs k p size Asking.Unlisted = wrong
 
 abbrev pub payloadOf : List ℕ → ℕ → List ℕ
 payloadOf s n = take n (drop (headOf lengthWidth) s)
 
-abbrev pub heardIn : List ℕ → Front → Heard
-heardIn s (Front.Whole k n) = heardAs k (payloadOf s n) (headOf lengthWidth + n) (askingOf k (payloadOf s n))
-heardIn s (Front.Wrong fault i) = wrong
+abbrev pub hearsIn : List ℕ → Front → Heard
+hearsIn s (Front.Whole k n) = hearsAs k (payloadOf s n) (headOf lengthWidth + n) (askingOf k (payloadOf s n))
+hearsIn s (Front.Wrong fault i) = wrong
 
 -- what the desk hears at the front of some bytes
-unfoldable pub heard : List ℕ → Heard
-heard s = heardIn s (front secondMark lengthWidth s)
+unfoldable pub hears : List ℕ → Heard
+hears s = hearsIn s (front secondMark lengthWidth s)
 
 -- the reply that each fetch is lent: 259 bytes. What they held before matters to no answer (`reply-alike`)
 abbrev pub replyRoom : ℕ
@@ -41,8 +41,8 @@ replyRoom = 259
 abbrev pub callWith : ℕ → Request → List ℕ → Call
 callWith room q given = asked q given (replicate room 0)
 
-abbrev pub callOf : Request → List ℕ → Call
-callOf q given = callWith replyRoom q given
+abbrev pub deskCall : Request → List ℕ → Call
+deskCall q given = callWith replyRoom q given
 
 -- ---- the calls read from an input, each with its record's kind; and how the input ends
 pub data Ending : Type 0 where
@@ -62,14 +62,14 @@ before k c i = record { kinds = k ∷ i .kinds; calls = c ∷ i .calls; ending =
 
 -- from an offset on; a record that reads is followed by the rest behind it
 abbrev pub readOn : Heard → ℕ → (ℕ → ℕ → Input) → Input
-readOn (asks k q given size) at rest = before k (callOf q given) (rest (size - 1) (at + size))
+readOn (calling k q given size) at rest = before k (deskCall q given) (rest (size - 1) (at + size))
 readOn wrong at rest = ends (badAt at)
 
 -- `skip` more bytes belong to the record before; `at` is the offset of the next
 unfoldable pub readFrom : ℕ → ℕ → List ℕ → Input
 readFrom skip at [] = ends clean
 readFrom (suc skip) at (b ∷ s) = readFrom skip at s
-readFrom zero at (b ∷ s) = readOn (heard (b ∷ s)) at (λ skip next. readFrom skip next s)
+readFrom zero at (b ∷ s) = readOn (hears (b ∷ s)) at (λ skip next. readFrom skip next s)
 
 -- ---- the text
 abbrev pub linesOf : List ℕ → List Outcome → List ℕ

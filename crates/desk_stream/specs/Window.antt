@@ -9,10 +9,10 @@ use Rattle.rules.specs.declared.Record.{Record}
 use Rattle.rules.specs.Calls.{State, Outcome}
 use Rattle.rules.specs.Machine.{step}
 use Rattle.answers.specs.Told.{stateOf}
-use Rattle.desk_text.specs.Put.{over}
+use Rattle.desk_text.specs.Put.{overlaid}
 use Rattle.desk_records.specs.Reading.{secondMark, lengthWidth, front, cut}
 use Rattle.desk_line.specs.Line.{lineFor, lineRoom}
-use Rattle.desk_stream.specs.Desk.{Heard, asks, wrong, heard, callOf, badText}
+use Rattle.desk_stream.specs.Desk.{Heard, calling, wrong, hears, deskCall, badText}
 
 -- how far the desk has come: its box, its place in the window, the text, and whether it met a bad record
 pub record Progress : Type 0 where
@@ -21,8 +21,8 @@ pub record Progress : Type 0 where
   pub text : List ℕ
   pub ended : Bool
 
-abbrev pub begun : State → Progress
-begun box = record { box = box; place = 0; text = []; ended = false }
+abbrev pub outset : State → Progress
+outset box = record { box = box; place = 0; text = []; ended = false }
 
 -- a record answered
 abbrev pub answered : ℕ → Outcome → ℕ → Progress → Progress
@@ -39,7 +39,7 @@ module _ (base : ℕ) (last : Bool) (room : ℕ) where
   waits s = cut (front secondMark lengthWidth s) && not last
 
   abbrev pub turned : List ℕ → Progress → Heard → (ℕ → Progress → Progress) → Progress
-  turned s p (asks k q given size) rest = rest (size - 1) (answered k (step (p .box) (callOf q given)) size p)
+  turned s p (calling k q given size) rest = rest (size - 1) (answered k (step (p .box) (deskCall q given)) size p)
   turned s p wrong rest = cond (waits s) p (broken p)
 
   abbrev pub roomy : Progress → Bool
@@ -49,7 +49,7 @@ module _ (base : ℕ) (last : Bool) (room : ℕ) where
   unfoldable pub served : ℕ → Progress → List ℕ → Progress
   served skip p [] = p
   served (suc skip) p (b ∷ s) = served skip p s
-  served zero p (b ∷ s) = cond (roomy p) (turned (b ∷ s) p (heard (b ∷ s)) (λ skip q. served skip q s)) p
+  served zero p (b ∷ s) = cond (roomy p) (turned (b ∷ s) p (hears (b ∷ s)) (λ skip q. served skip q s)) p
 
 -- a progress as the program holds it: record, ring, place in the window, and the text at the front of the buffer
 pub record Holds (p : Progress) (window out : List ℕ) (next : Record) (ring : List ℕ) (at filled : ℕ) (out' : List ℕ) (ended : Bool) : Type 0 where
@@ -57,7 +57,7 @@ pub record Holds (p : Progress) (window out : List ℕ) (next : Record) (ring : 
   pub place : at ≡ p .place
   pub stopped : ended ≡ p .ended
   pub long : filled ≡ length (p .text)
-  pub text : out' ≡ over out 0 (p .text)
+  pub text : out' ≡ overlaid out 0 (p .text)
   pub inside : at ≤ length window
   pub fits : filled ≤ length out'
 

@@ -15,7 +15,7 @@ ghost use Rattle.desk_text.specs.Put.{Puts};
 ghost use Rattle.desk_records.specs.Reading.{cutAt};
 ghost use Rattle.desk_line.specs.Line.{lineFor, lineRoom};
 ghost use Rattle.desk_stream.specs.Desk.{replyRoom, callWith, badLine, badText};
-ghost use Rattle.desk_stream.specs.Window.{begun, served, Holds, unread};
+ghost use Rattle.desk_stream.specs.Window.{outset, served, Holds, unread};
 
 // No line is longer.
 const LINE_ROOM: usize = 640;
@@ -128,7 +128,7 @@ fn serve_with(
     out: &mut [u8],
 ) -> Served
     requires { ⌜ length (now reply) ≡ replyRoom ⌝ }
-    ensures { λ t. ⌜ Holds (served base last (length (now (out .entry))) 0 (begun (stateOf r (now (ring .entry)))) (now (s .entry)))
+    ensures { λ t. ⌜ Holds (served base last (length (now (out .entry))) 0 (outset (stateOf r (now (ring .entry)))) (now (s .entry)))
         (now (s .entry)) (now (out .entry)) (t .next) (now (ring .exit)) (t .at) (t .filled) (now (out .exit)) (t .ended) ⌝ }
 {
     let mut next = r;
@@ -172,7 +172,7 @@ fn serve_with(
 // Answers the records of a window, each as soon as it is whole and its line has room: the lines go to the front of `out`. `base`
 // is the window's offset in the input; `last` says that no input follows it.
 pub fn serve(r: Record, ring: &mut [u8], s: &[u8], base: u64, last: bool, out: &mut [u8]) -> Served
-    ensures { λ t. ⌜ Holds (served base last (length (now (out .entry))) 0 (begun (stateOf r (now (ring .entry)))) (now (s .entry)))
+    ensures { λ t. ⌜ Holds (served base last (length (now (out .entry))) 0 (outset (stateOf r (now (ring .entry)))) (now (s .entry)))
         (now (s .entry)) (now (out .entry)) (t .next) (now (ring .exit)) (t .at) (t .filled) (now (out .exit)) (t .ended) ⌝ }
     ensures { λ t. ⌜ t .at ≤ length (now (s .entry)) ⌝ }
     ensures { λ t. ⌜ t .filled ≤ length (now (out .exit)) ⌝ }

@@ -12,15 +12,15 @@ use borrow.Author.Tests.{lt-ltb, le-ltb, ltb-true, ltb-false}
 use lib.Dec.{ltb}
 use lib.ListN.{length, getD, set, take, drop, length-append, length-take, length-drop, length-set, take-append-drop, drop-of-length-le}
 use lib.Seq.{set-split, append-snoc, take-append-seam, drop-append-add, drop-drop, take-suc, take-all, take-nil, drop-nil, drop-at, length-take-le}
-use Rattle.desk_text.specs.Put.{Puts, fitting, over}
-use Rattle.desk_text.specs.Digits.{digits, mostDigits, decimal, hexes, hexByte, hexDigit}
+use Rattle.desk_text.specs.Put.{Puts, fitting, overlaid}
+use Rattle.desk_text.specs.Digits.{lastDigits, mostDigits, decimal, hexes, hexByte, hexDigit}
 
 -- ---- a text over a buffer
-over-none : (o : List ℕ) (at : ℕ) → over o at [] ≡ o
+over-none : (o : List ℕ) (at : ℕ) → overlaid o at [] ≡ o
 over-none o at = rw (append-nil, add-zero) (take-append-drop at o)
 
 -- one text, and another right behind it
-over-then : (o t u : List ℕ) (at : ℕ) → over (over o at t) (at + length t) u ≡ over o at (t ++ u)
+over-then : (o t u : List ℕ) (at : ℕ) → overlaid (overlaid o at t) (at + length t) u ≡ overlaid o at (t ++ u)
 over-then o t u zero =
     let d = drop (length t) o in
     let behind = drop-append-add t d (length u) ∙ drop-drop (length u) (length t) o in
@@ -31,7 +31,7 @@ over-then [] t u (suc at) =
     simp (drop-nil, append-nil t, append-nil, all, over-end)
 over-then (x ∷ o) t u (suc at) = simp suc-add (ap (λ (l : List ℕ). x ∷ l) (over-then o t u at))
 
-over-size : (o t : List ℕ) (at : ℕ) → length (over o at (fitting o at t)) ≡ length o
+over-size : (o t : List ℕ) (at : ℕ) → length (overlaid o at (fitting o at t)) ≡ length o
 over-size o t at =
     let n = length-take (length o - at) t in
     simp (length-append, length-take at o, length-drop) (omega arith)
@@ -53,7 +53,7 @@ put-none o at =
     record { behind = rw none (sym (add-zero at)); stands = rw none (sym (over-none o at)) }
 
 -- all of it
-pub put-whole : {o o₁ t : List ℕ} {at r : ℕ} → at + length t ≤ length o → r ≡ at + length t → o₁ ≡ over o at t → Puts o at t r o₁
+pub put-whole : {o o₁ t : List ℕ} {at r : ℕ} → at + length t ≤ length o → r ≡ at + length t → o₁ ≡ overlaid o at t → Puts o at t r o₁
 put-whole {o} {o₁} {t} {at} {r} h e f =
     let all = whole o t at h in
     record { behind = rw all e; stands = rw all f }
@@ -77,8 +77,8 @@ module _ {o o₁ t : List ℕ} {at r : ℕ} where
   pub whole-next : at + length t ≤ length o → Puts o at t r o₁ → r ≡ at + length t
   whole-next h p = p .behind ∙ ap (λ (z : List ℕ). at + length z) (whole o t at h)
 
-  pub whole-stands : at + length t ≤ length o → Puts o at t r o₁ → o₁ ≡ over o at t
-  whole-stands h p = p .stands ∙ ap (over o at) (whole o t at h)
+  pub whole-stands : at + length t ≤ length o → Puts o at t r o₁ → o₁ ≡ overlaid o at t
+  whole-stands h p = p .stands ∙ ap (overlaid o at) (whole o t at h)
 
   pub within : at ≤ length o → Puts o at t r o₁ → r ≤ length o
   within h p = omega (arith, p .behind, length-take (length o - at) t)
@@ -95,9 +95,9 @@ then {o} {o₁} {o₂} {t} {u} {a} {r} {q} p k =
       behind = rw (all, length-append) (omega (arith, p .behind, k .behind));
       stands =
           k .stands
-          ∙ ap₂ (λ (l : List ℕ) (n : ℕ). over l n (fitting o₁ r u)) (p .stands) (p .behind)
+          ∙ ap₂ (λ (l : List ℕ) (n : ℕ). overlaid l n (fitting o₁ r u)) (p .stands) (p .behind)
           ∙ over-then o (fitting o a t) (fitting o₁ r u) a
-          ∙ ap (over o a) (sym all);
+          ∙ ap (overlaid o a) (sym all);
     }
 
 -- ---- bytes, one more in each turn
@@ -125,13 +125,13 @@ bytes-all o o₁ s at i n e l h p =
     }
 
 -- ---- digits
-one-digit : (m n : ℕ) → 1 ≤ m → n < 10 → digits m n ≡ (48 + n) ∷ []
-unfolding digits
+one-digit : (m n : ℕ) → 1 ≤ m → n < 10 → lastDigits m n ≡ (48 + n) ∷ []
+unfolding lastDigits
 one-digit zero n l h = absurd (omega arith)
 one-digit (suc m) n l h = simp (lt-ltb _ _ h)
 
-more-digits : (m n : ℕ) → 9 < n → digits (suc m) n ≡ digits m (n / 10) ++ (48 + n % 10) ∷ []
-unfolding digits
+more-digits : (m n : ℕ) → 9 < n → lastDigits (suc m) n ≡ lastDigits m (n / 10) ++ (48 + n % 10) ∷ []
+unfolding lastDigits
 more-digits m n h = simp (le-ltb n 10 h)
 
 pub digits-one : {o o₁ : List ℕ} {at r n : ℕ} → n < 10 → Puts o at ((48 + n) ∷ []) r o₁ → Puts o at (decimal n) r o₁
@@ -139,9 +139,9 @@ digits-one {n = n} h p = moved p (sym (one-digit mostDigits n (omega arith) h))
 
 -- as many digits as a number has are enough for it
 record Exact (k n : ℕ) : Type 0 where
-  same : digits (length (digits k n)) n ≡ digits k n
-  fits : n < 10 ^ length (digits k n)
-  some : 1 ≤ length (digits k n)
+  same : lastDigits (length (lastDigits k n)) n ≡ lastDigits k n
+  fits : n < 10 ^ length (lastDigits k n)
+  some : 1 ≤ length (lastDigits k n)
 
 exact-one : (k n : ℕ) → n < 10 → Exact (suc k) n
 exact-one k n h =
@@ -151,11 +151,11 @@ exact-one k n h =
 exact-more : (k n : ℕ) → 9 < n → Exact k (n / 10) → Exact (suc k) n
 exact-more k n h x =
     let all = more-digits k n h in
-    let size : length (digits (suc k) n) ≡ suc (length (digits k (n / 10))) = rw (all, length-append) (add-one _) in
+    let size : length (lastDigits (suc k) n) ≡ suc (length (lastDigits k (n / 10))) = rw (all, length-append) (add-one _) in
     record {
       same =
           rw size
-          (more-digits (length (digits k (n / 10))) n h ∙ ap (λ (t : List ℕ). t ++ (48 + n % 10) ∷ []) (x .same) ∙ sym all);
+          (more-digits (length (lastDigits k (n / 10))) n h ∙ ap (λ (t : List ℕ). t ++ (48 + n % 10) ∷ []) (x .same) ∙ sym all);
       fits = rw (size, pow-suc) (omega (arith, x .fits));
       some = rw size (omega arith);
     }
@@ -172,7 +172,7 @@ exact (suc (suc k)) n l h =
     exact-by (suc k) n (ltb n 10) refl (exact (suc k) (n / 10) (omega arith) less)
 
 -- how many: from ten to the k on, and below ten times that, one more than k
-count : (most k n : ℕ) → k < most → 10 ^ k ≤ n → n < 10 ^ suc k → length (digits most n) ≡ suc k
+count : (most k n : ℕ) → k < most → 10 ^ k ≤ n → n < 10 ^ suc k → length (lastDigits most n) ≡ suc k
 count zero k n l h g = absurd (omega arith)
 count (suc m) zero n l h g = rw (one-digit (suc m) n (omega arith) (omega arith))
 count (suc m) (suc k) n l h g =
@@ -189,7 +189,7 @@ wide k n l h g = sym (count mostDigits k n l h g)
 
 -- the digits that are left go before those that stand at the end of the part
 pub record Filling (n : ℕ) (part : List ℕ) (from left : ℕ) : Type 0 where
-  pub so : digits from left ++ drop from part ≡ decimal n
+  pub so : lastDigits from left ++ drop from part ≡ decimal n
   pub long : length part ≡ length (decimal n)
   pub fits : left < 10 ^ from
   pub low : 1 ≤ from
@@ -222,7 +222,7 @@ filling-again n (suc (suc from)) left part f h =
     (record {
       so =
           rw placed
-          (sym (append-assoc (digits i (left / 10)) ((48 + left % 10) ∷ []) (drop (suc i) part))
+          (sym (append-assoc (lastDigits i (left / 10)) ((48 + left % 10) ∷ []) (drop (suc i) part))
           ∙ ap (λ (t : List ℕ). t ++ drop (suc i) part) (sym (more-digits i left h))
           ∙ f .so);
       long = length-set part i (48 + left % 10) ∙ f .long;
@@ -251,16 +251,16 @@ either : (b : Bool) (t u : List ℕ) (n : ℕ) → length t ≤ n → length u �
 either true t u n h k = h
 either false t u n h k = k
 
-pub length-digits : (most n : ℕ) → length (digits most n) ≤ most
-unfolding digits
+pub length-digits : (most n : ℕ) → length (lastDigits most n) ≤ most
+unfolding lastDigits
 length-digits zero n = omega arith
 length-digits (suc most) n =
     let front = length-digits most (n / 10) in
-    let all = length-append (digits most (n / 10)) ((48 + n % 10) ∷ []) in
+    let all = length-append (lastDigits most (n / 10)) ((48 + n % 10) ∷ []) in
     either (ltb n 10) _ _ (suc most) (omega arith) (omega arith)
 
 -- ---- a part of the buffer that is as long as the text
-over-all : (o t : List ℕ) → length t ≡ length o → over o 0 t ≡ t
+over-all : (o t : List ℕ) → length t ≡ length o → overlaid o 0 t ≡ t
 over-all o t e = rw (zero-add (length t), drop-of-length-le o {i = length t} (omega arith)) (append-nil t)
 
 part-filled : {o o₁ t : List ℕ} {r : ℕ} → length t ≡ length o → Puts o 0 t r o₁ → o₁ ≡ t

@@ -5,16 +5,16 @@ use mathlib.Core.List.{List, [], _∷_, _++_}
 use lib.Dec.{ltb}
 
 -- the last `most` decimal digits of n, with no zeros in front
-unfoldable pub digits : ℕ → ℕ → List ℕ
-digits zero n = []
-digits (suc most) n = cond (ltb n 10) ((48 + n) ∷ []) (digits most (n / 10) ++ (48 + n % 10) ∷ [])
+unfoldable pub lastDigits : ℕ → ℕ → List ℕ
+lastDigits zero n = []
+lastDigits (suc most) n = cond (ltb n 10) ((48 + n) ∷ []) (lastDigits most (n / 10) ++ (48 + n % 10) ∷ [])
 
 -- a number of 64 bits has at most twenty digits
 abbrev pub mostDigits : ℕ
 mostDigits = 20
 
 abbrev pub decimal : ℕ → List ℕ
-decimal n = digits mostDigits n
+decimal n = lastDigits mostDigits n
 
 -- 0 to 9, A to F
 abbrev pub hexDigit : ℕ → ℕ

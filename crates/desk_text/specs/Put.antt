@@ -9,10 +9,10 @@ abbrev pub fitting : List ℕ → ℕ → List ℕ → List ℕ
 fitting buffer at t = take (length buffer - at) t
 
 -- the buffer with a text in the place of as many bytes
-abbrev pub over : List ℕ → ℕ → List ℕ → List ℕ
-over buffer at t = take at buffer ++ t ++ drop (at + length t) buffer
+abbrev pub overlaid : List ℕ → ℕ → List ℕ → List ℕ
+overlaid buffer at t = take at buffer ++ t ++ drop (at + length t) buffer
 
 -- the text stands in the buffer as far as there is room, `next` is the place behind it, and every other byte is as it was
 pub record Puts (before : List ℕ) (at : ℕ) (t : List ℕ) (next : ℕ) (after : List ℕ) : Type 0 where
   pub behind : next ≡ at + length (fitting before at t)
-  pub stands : after ≡ over before at (fitting before at t)
+  pub stands : after ≡ overlaid before at (fitting before at t)

@@ -9,8 +9,8 @@ use Rattle.rules.specs.declared.Feeder.{Feeder}
 use Rattle.rules.specs.declared.Input.{Input}
 use Rattle.rules.specs.declared.Fed.{Fed}
 use Rattle.rules.specs.Record.{busy, stuck}
-use Rattle.rules.specs.Calls.{n501, n711, n713, FeederCall, feeder, Load, Eject, Reset, Line, refuse, leaving}
-use Rattle.rules.specs.Feeder.{stands, loading, fed, fedAt, gives, ejecting}
+use Rattle.rules.specs.Calls.{n501, n711, n713, FeederCall, feeder, Load, Eject, Reset, Guard, refuse, leaving}
+use Rattle.rules.specs.Feeder.{stands, loads, fed, fedAt, gives, ejecting}
 use Rattle.rules.specs.Moves.{withFeeder, fedBy}
 use Rattle.rules.proofs.Choice.{choice}
 use Rattle.rules.proofs.Feeding.{is-ready}
@@ -29,7 +29,7 @@ Answered wrong erred empty next r a =
     (cond empty (record { next = next; answer = Answer.Refused Why.NoSheet }) (record { next = next; answer = Answer.Done })))
 
 -- the lines lead to it
-abbrev LeadTo : FeederCall → Record → List ℕ → Record → List Line → After → Type 0
+abbrev LeadTo : FeederCall → Record → List ℕ → Record → List Guard → After → Type 0
 LeadTo c r ring next ls a = Leads (stateOf r ring) (feeder c) (gave (record { next = next; answer = Answer.Done }) ring []) ls (gave a ring [])
 
 module _ (c : FeederCall) (r : Record) (ring : List ℕ) where
@@ -85,12 +85,12 @@ module _ {j : ℕ} {r : Record} {ring : List ℕ} {a : After} where
       → LeadTo (Load j) r ring (fedBy Input.Load r)
       (refuse n501 (gives n501 (fedAt Input.Load (r .feeder)))
       ∷ refuse n711 (gives n711 (fedAt Input.Load (r .feeder)))
-      ∷ leaving n713 (gives n713 (loading (r .feeder .tray))) (withFeeder (stands (loading (r .feeder .tray) .next) (r .feeder)) r)
+      ∷ leaving n713 (gives n713 (loads (r .feeder .tray))) (withFeeder (stands (loads (r .feeder .tray) .next) (r .feeder)) r)
       ∷ []) a
   unfolding fed
   load-leads =
       by-three (Load j) r ring λ b x.
-      let e = sym (is-ready (r .feeder .state) (loading (r .feeder .tray)) b x .told) in
+      let e = sym (is-ready (r .feeder .state) (loads (r .feeder .tray)) b x .told) in
       (ap (gives n713) e, ap (λ (d : Fed). withFeeder (stands (d .next) (r .feeder)) r) e)
 
   pub eject-leads : {v : ℕ} {i : Input} → i ≡ ejecting v → Ruled i r a

@@ -9,7 +9,7 @@ ghost use lib.Dec.{eqb};
 ghost use Rattle.rules.specs.declared.Feed.{Feed};
 ghost use Rattle.rules.specs.Record.{busy, stuck};
 ghost use Rattle.rules.specs.Calls.{n501};
-ghost use Rattle.rules.specs.Feeder.{becomes, denied, ready, loading, fed, fedAt};
+ghost use Rattle.rules.specs.Feeder.{becomes, denied, ready, loads, fed, fedAt};
 
 fn accept(next: Feed) -> Fed
     ensures { λ d. ⌜ d ≡ becomes next ⌝ }
@@ -40,7 +40,7 @@ fn if_ready(state: Feed, told: Fed) -> Fed
 
 // Tray empty: 713 and Unloaded, from Loaded too. Else Loaded.
 fn load(tray: u8) -> Fed
-    ensures { λ d. ⌜ d ≡ loading tray ⌝ }
+    ensures { λ d. ⌜ d ≡ loads tray ⌝ }
 {
     if tray == 0 {
         return Fed {

@@ -17,7 +17,7 @@ use Rattle.rules.specs.Moves.{withRing, heard, drained, headed, least, moved, l
 use Rattle.rules.specs.Calls.{scan, Fetch}
 use Rattle.rules.specs.Machine.{effect, scanEffect}
 use Rattle.rules.proofs.RingLaws.{length-queue}
-use Rattle.ring.specs.Lent.{has, left, goes, takeOut}
+use Rattle.ring.specs.Lent.{has, leftAfter, goesOut, takeOut}
 use Rattle.answers.specs.declared.Answer.{Answer}
 use Rattle.answers.specs.declared.After.{After}
 use Rattle.answers.specs.Told.{stateOf, gave}
@@ -42,12 +42,12 @@ behind-long l =
     ap length (behind-is l) ∙ length-drop headed (marked l)
     ∙ ap (λ (n : ℕ). n - headed) (marked-long l)
 
-pub moved-count : (n start want k : ℕ) (l : List ℕ) → start < n → want ≤ n → k ≡ goes n start want (length (behind l)) → k ≡ min want (length l - headed)
+pub moved-count : (n start want k : ℕ) (l : List ℕ) → start < n → want ≤ n → k ≡ goesOut n start want (length (behind l)) → k ≡ min want (length l - headed)
 moved-count n start want k l h w e =
     let one : min (min want n) (length l - headed) ≡ min want (length l - headed) = omega arith in
     e ∙ rw (lt-ltb start n h, behind-long l) one
 
-pub reply-made : (ring l part : List ℕ) (start want k : ℕ) → headed ≤ length l → k ≡ goes (length ring) start want (length (behind l))
+pub reply-made : (ring l part : List ℕ) (start want k : ℕ) → headed ≤ length l → k ≡ goesOut (length ring) start want (length (behind l))
     → part ≡ takeOut ring start want (behind l)
     → set (putMid headed (length (marked l) - headed) (marked l) part) 3 k ≡ replyWith ring start k l
 unfolding replyWith takeOut
@@ -84,19 +84,19 @@ least-is stored most room want k w e = omega (arith, w, e)
 
 -- ---- the record
 module _ (r : Record) (n k : ℕ) (h : has (r .ring) n k ≡ true) where
-  left-is : left (r .ring) n k ≡ record { start = wrap n (r .ring .start + k); stored = r .ring .stored - k }
+  left-is : leftAfter (r .ring) n k ≡ record { start = wrap n (r .ring .start + k); stored = r .ring .stored - k }
   left-is = rw h
 
-  note-is : (b : Bool) → (finishing (r .scanner .state) && eqb (left (r .ring) n k .stored) 0) ≡ b → last k r ≡ b
+  note-is : (b : Bool) → (finishing (r .scanner .state) && eqb (leftAfter (r .ring) n k .stored) 0) ≡ b → last k r ≡ b
   note-is b e = ap (λ (g : Ring). finishing (r .scanner .state) && eqb (g .stored) 0) (sym left-is) ∙ e
 
-  pub noted-last : (finishing (r .scanner .state) && eqb (left (r .ring) n k .stored) 0) ≡ true
-      → _≡_ {A = After} (record { next = drained (heard k (withRing (left (r .ring) n k) r)); answer = Answer.Picture k true }) (noted k n r)
+  pub noted-last : (finishing (r .scanner .state) && eqb (leftAfter (r .ring) n k .stored) 0) ≡ true
+      → _≡_ {A = After} (record { next = drained (heard k (withRing (leftAfter (r .ring) n k) r)); answer = Answer.Picture k true }) (noted k n r)
   unfolding noted fetched moved
   noted-last e = rw (note-is true e, left-is)
 
-  pub noted-more : (finishing (r .scanner .state) && eqb (left (r .ring) n k .stored) 0) ≡ false
-      → _≡_ {A = After} (record { next = heard k (withRing (left (r .ring) n k) r); answer = Answer.Picture k false }) (noted k n r)
+  pub noted-more : (finishing (r .scanner .state) && eqb (leftAfter (r .ring) n k .stored) 0) ≡ false
+      → _≡_ {A = After} (record { next = heard k (withRing (leftAfter (r .ring) n k) r); answer = Answer.Picture k false }) (noted k n r)
   unfolding noted fetched moved
   noted-more e = rw (note-is false e, left-is)
 

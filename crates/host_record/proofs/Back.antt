@@ -13,7 +13,7 @@ use Rattle.rules.specs.declared.Failure.{Failure}
 use Rattle.rules.specs.declared.Record.{Record}
 use Rattle.rules.proofs.Sound.{all}
 use Rattle.host_record.specs.declared.Loading.{Loading}
-use Rattle.host_record.specs.Stored.{scanNumber, feedNumber, failureNumber, scanAt, feedAt, failureAt, kept, numberAt, fits, fitting}
+use Rattle.host_record.specs.Stored.{scanNumber, feedNumber, failureNumber, scanAt, feedAt, failureAt, kept, numberAt, fits, allFit}
 use Rattle.host_record.specs.Stored.{recorded, loading}
 use Rattle.host_record.proofs.Fitting.{below}
 
@@ -68,7 +68,7 @@ spell zero k ws e = drop-of-length-le ws {i = k} (omega (arith, e))
 spell (suc n) k ws e = drop-cons ws k 0 (omega (arith, e)) ∙ ap (λ (l : List ℕ). numberAt ws k ∷ l) (spell n (suc k) ws (omega (arith, e)))
 
 -- ---- the two ways
-pub kept-recorded : (ws : List ℕ) → length ws ≡ 18 → fitting ws ≡ true → kept (recorded ws) ≡ ws
+pub kept-recorded : (ws : List ℕ) → length ws ≡ 18 → allFit ws ≡ true → kept (recorded ws) ≡ ws
 unfolding kept recorded places
 kept-recorded ws e f =
     let b = below f in
@@ -82,13 +82,13 @@ kept-recorded ws e f =
 -- so a record that was loaded has the very numbers
 pub loaded-kept : (ws : List ℕ) {r : Record} → length ws ≡ 18 → loading ws ≡ Loading.Loads r → kept r ≡ ws
 unfolding loading
-loaded-kept ws {r} e l = go (fitting ws) refl l
+loaded-kept ws {r} e l = go (allFit ws) refl l
   where
-    go : (b : Bool) → fitting ws ≡ b → cond b (Loading.Loads (recorded ws)) Loading.Malformed ≡ Loading.Loads r → kept r ≡ ws
+    go : (b : Bool) → allFit ws ≡ b → cond b (Loading.Loads (recorded ws)) Loading.Malformed ≡ Loading.Loads r → kept r ≡ ws
     go true f h = let same : recorded ws ≡ r = cc in ap kept (sym same) ∙ kept-recorded ws e f
     go false f h = let z : _≡_ {A = ℕ} 0 1 = cc in absurd (omega arith)
 
-pub loads-kept : (r : Record) → fitting (kept r) ≡ true → loading (kept r) ≡ Loading.Loads r
+pub loads-kept : (r : Record) → allFit (kept r) ≡ true → loading (kept r) ≡ Loading.Loads r
 unfolding kept recorded loading
 loads-kept r f =
     rw f (rw (scan-again (r .scanner .state), failure-again (r .scanner .failure), feed-again (r .feeder .state), failure-again (r .feeder .failure)) refl)
@@ -114,8 +114,8 @@ failure-fits Failure.Timeout = omega arith
 
 pub kept-fits : (r : Record) → r .job .held < 4294967296 → r .job .last < 4294967296 → r .settings .feeder < 256 → r .settings .append < 256
     → r .job .granted .seconds < 65536 → r .job .quiet < 65536 → r .side .count < 4294967296 → r .side .number < 65536
-    → r .side .destination < 4294967296 → r .job .stop < 256 → r .feeder .tray < 256 → r .feeder .path < 256 → fitting (kept r) ≡ true
-unfolding kept fitting
+    → r .side .destination < 4294967296 → r .job .stop < 256 → r .feeder .tray < 256 → r .feeder .path < 256 → allFit (kept r) ≡ true
+unfolding kept allFit
 kept-fits r a b c d e f g h i j k l =
     all (fits (kept r)) (
       lt-ltb _ _ (scan-fits (r .scanner .state)),
@@ -173,14 +173,14 @@ pub kept-each : (r : Record) {a0 a1 a2 a3 a4 a5 a6 a7 a8 a9 a10 a11 a12 a13 a14 
     → a16 ≡ r .ring .start
     → a17 ≡ r .ring .stored
     → (a0 ∷ a1 ∷ a2 ∷ a3 ∷ a4 ∷ a5 ∷ a6 ∷ a7 ∷ a8 ∷ a9 ∷ a10 ∷ a11 ∷ a12 ∷ a13 ∷ a14 ∷ a15 ∷ a16 ∷ a17 ∷ [] ≡ kept r)
-    × (fitting (a0 ∷ a1 ∷ a2 ∷ a3 ∷ a4 ∷ a5 ∷ a6 ∷ a7 ∷ a8 ∷ a9 ∷ a10 ∷ a11 ∷ a12 ∷ a13 ∷ a14 ∷ a15 ∷ a16 ∷ a17 ∷ []) ≡ true)
+    × (allFit (a0 ∷ a1 ∷ a2 ∷ a3 ∷ a4 ∷ a5 ∷ a6 ∷ a7 ∷ a8 ∷ a9 ∷ a10 ∷ a11 ∷ a12 ∷ a13 ∷ a14 ∷ a15 ∷ a16 ∷ a17 ∷ []) ≡ true)
 unfolding kept
 kept-each r {a0} {a1} {a2} {a3} {a4} {a5} {a6} {a7} {a8} {a9} {a10} {a11} {a12} {a13} {a14} {a15} {a16} {a17}
     e0 e1 e2 e3 e4 e5 e6 e7 e8 e9 e10 e11 e12 e13 e14 e15 e16 e17 =
     let same : (a0 ∷ a1 ∷ a2 ∷ a3 ∷ a4 ∷ a5 ∷ a6 ∷ a7 ∷ a8 ∷ a9 ∷ a10 ∷ a11 ∷ a12 ∷ a13 ∷ a14 ∷ a15 ∷ a16 ∷ a17 ∷ []) ≡ kept r
     = rw (e0, e1, e2, e3, e4 .0, e5 .0, e6 .0, e7 .0, e8 .0, e9 .0, e10 .0, e11 .0, e12 .0, e13 .0, e14 .0, e15 .0, e16, e17) refl in (
       same,
-      ap fitting same
+      ap allFit same
           ∙ kept-fits r (below-as e4) (below-as e5) (below-as e6) (below-as e7) (below-as e8) (below-as e9) (below-as e10) (below-as e11)
           (below-as e12) (below-as e13) (below-as e14) (below-as e15),
     )

@@ -5,7 +5,7 @@ use mathlib.Core.Bool.{true}
 use mathlib.Core.List.{List}
 use borrow.Author.Tests.{ltb-true}
 use Rattle.rules.proofs.Sound.{holds}
-use Rattle.host_record.specs.Stored.{numberAt, fits, fitting}
+use Rattle.host_record.specs.Stored.{numberAt, fits, allFit}
 
 pub record Fits (ws : List ℕ) : Type 0 where
   pub scanned : numberAt ws 0 < 5
@@ -25,8 +25,8 @@ pub record Fits (ws : List ℕ) : Type 0 where
   pub tray : numberAt ws 14 < 256
   pub path : numberAt ws 15 < 256
 
-pub below : {ws : List ℕ} → fitting ws ≡ true → Fits ws
-unfolding fitting
+pub below : {ws : List ℕ} → allFit ws ≡ true → Fits ws
+unfolding allFit
 below {ws} e =
     let h = holds (fits ws) e in
     record {

@@ -94,8 +94,8 @@ fits ws =
     ∷ ltb (numberAt ws 15) 256
     ∷ []
 
-unfoldable pub fitting : List ℕ → Bool
-fitting ws = every (fits ws)
+unfoldable pub allFit : List ℕ → Bool
+allFit ws = every (fits ws)
 
 abbrev pub scannerIn : List ℕ → Scanner
 scannerIn ws = record { state = scanAt (numberAt ws 0); failure = failureAt (numberAt ws 1) }
@@ -129,4 +129,4 @@ recorded ws =
 
 -- numbers that do not fit are no record
 unfoldable pub loading : List ℕ → Loading
-loading ws = cond (fitting ws) (Loading.Loads (recorded ws)) Loading.Malformed
+loading ws = cond (allFit ws) (Loading.Loads (recorded ws)) Loading.Malformed

@@ -13,7 +13,7 @@ use rules::Side;
 ghost use mathlib.Core.Path.{_≡_};
 ghost use mathlib.Core.Bool.{true};
 ghost use Prim.Native.Nat.{_<_};
-ghost use Rattle.host_record.specs.Stored.{scanNumber, feedNumber, failureNumber, scanAt, feedAt, failureAt, kept, fitting};
+ghost use Rattle.host_record.specs.Stored.{scanNumber, feedNumber, failureNumber, scanAt, feedAt, failureAt, kept, allFit};
 ghost use Rattle.host_record.specs.Stored.{scannerIn, jobIn, sideIn, settingsIn, feederIn, ringIn};
 ghost use Rattle.host_record.specs.Stored.{recorded, loading};
 
@@ -126,7 +126,7 @@ fn long(n: u64) -> u32
 
 // Each number fits its field.
 fn fits(w: &[u64; 18]) -> bool
-    ensures { λ b. ⌜ b ≡ fitting (now (w .entry)) ⌝ }
+    ensures { λ b. ⌜ b ≡ allFit (now (w .entry)) ⌝ }
 {
     (w[0] < 5)
         & (w[1] < 3)
@@ -156,7 +156,7 @@ fn scanner(w: &[u64; 18]) -> Scanner
 }
 
 fn job(w: &[u64; 18]) -> Job
-    requires { ⌜ fitting (now w) ≡ true ⌝ }
+    requires { ⌜ allFit (now w) ≡ true ⌝ }
     ensures { λ j. ⌜ j ≡ jobIn (now (w .entry)) ⌝ }
 {
     let granted = Granted {
@@ -172,7 +172,7 @@ fn job(w: &[u64; 18]) -> Job
 }
 
 fn side(w: &[u64; 18]) -> Side
-    requires { ⌜ fitting (now w) ≡ true ⌝ }
+    requires { ⌜ allFit (now w) ≡ true ⌝ }
     ensures { λ d. ⌜ d ≡ sideIn (now (w .entry)) ⌝ }
 {
     Side {
@@ -183,7 +183,7 @@ fn side(w: &[u64; 18]) -> Side
 }
 
 fn settings(w: &[u64; 18]) -> Settings
-    requires { ⌜ fitting (now w) ≡ true ⌝ }
+    requires { ⌜ allFit (now w) ≡ true ⌝ }
     ensures { λ t. ⌜ t ≡ settingsIn (now (w .entry)) ⌝ }
 {
     Settings {
@@ -193,7 +193,7 @@ fn settings(w: &[u64; 18]) -> Settings
 }
 
 fn feeder(w: &[u64; 18]) -> Feeder
-    requires { ⌜ fitting (now w) ≡ true ⌝ }
+    requires { ⌜ allFit (now w) ≡ true ⌝ }
     ensures { λ f. ⌜ f ≡ feederIn (now (w .entry)) ⌝ }
 {
     let state = feed_of(w[2]);
@@ -216,7 +216,7 @@ fn ring(w: &[u64; 18]) -> Ring
 }
 
 fn whole(w: &[u64; 18]) -> Record
-    requires { ⌜ fitting (now w) ≡ true ⌝ }
+    requires { ⌜ allFit (now w) ≡ true ⌝ }
     ensures { λ r. ⌜ r ≡ recorded (now (w .entry)) ⌝ }
 {
     let scanner = scanner(w);
@@ -273,7 +273,7 @@ fn of_place(x: usize) -> u64
 
 pub fn keep(w: &mut [u64; 18], r: Record)
     ensures { λ _. ⌜ now (w .exit) ≡ kept r ⌝ }
-    ensures { λ _. ⌜ fitting (now (w .exit)) ≡ true ⌝ }
+    ensures { λ _. ⌜ allFit (now (w .exit)) ≡ true ⌝ }
 {
     let scanner = r.scanner;
     let feeder = r.feeder;

@@ -12,7 +12,7 @@ use lib.ListN.{length, getD, set, take, drop, length-set, length-drop, take-appe
 use lib.Seq.{drop-cons, sets, sets-eq, paste, paste-zero, length-take-le, take-all, drop-drop, drop-at, take-at}
 use Rattle.rules.specs.declared.Ring.{Ring}
 use Rattle.rules.proofs.Choice.{and-l, and-r}
-use Rattle.ring.specs.Lent.{takes, has, goes, takeOut}
+use Rattle.ring.specs.Lent.{takes, has, goesOut, takeOut}
 use Rattle.rules.specs.Ring.{next, wrap, put, queue}
 use Rattle.rules.proofs.RingLaws.{wrap-zero, wrap-next, next-lt, length-put, queue-split}
 
@@ -138,21 +138,21 @@ pub fill-end : (ring bs first end : List ℕ) (at near : ℕ) → at < length ri
     → first ≡ paste ring at bs near → end ≡ paste first 0 (drop near bs) (length bs - near) → end ≡ put ring at bs
 fill-end ring bs first end at near h l n f e = e ∙ rw (f, n) (sym (in-runs ring bs at h l))
 
-goes-some : (n start want room : ℕ) → start < n → min (min want n) room ≡ goes n start want room
+goes-some : (n start want room : ℕ) → start < n → min (min want n) room ≡ goesOut n start want room
 goes-some n start want room h = simp (lt-ltb start n h)
 
-pub goes-is : (n start want room inside k : ℕ) → start < n → inside ≡ min want n → k ≡ min inside room → k ≡ goes n start want room
+pub goes-is : (n start want room inside k : ℕ) → start < n → inside ≡ min want n → k ≡ min inside room → k ≡ goesOut n start want room
 goes-is n start want room inside k h i e = e ∙ ap (λ (j : ℕ). min j room) i ∙ goes-some n start want room h
 
-pub goes-none : (n start want room : ℕ) → n ≤ start → 0 ≡ goes n start want room
+pub goes-none : (n start want room : ℕ) → n ≤ start → 0 ≡ goesOut n start want room
 goes-none n start want room h = simp (le-ltb start n h)
 
-pub take-end : (ring out first end : List ℕ) (at want k near : ℕ) → at < length ring → k ≡ goes (length ring) at want (length out)
+pub take-end : (ring out first end : List ℕ) (at want k near : ℕ) → at < length ring → k ≡ goesOut (length ring) at want (length out)
     → near ≡ min k (length ring - at) → first ≡ paste out 0 (drop at ring) near → end ≡ paste first near ring (k - near)
     → end ≡ takeOut ring at want out
 unfolding takeOut
 take-end ring out first end at want k near h g n f e =
-    let some : min (min want (length ring)) (length out) ≡ goes (length ring) at want (length out) = goes-some (length ring) at want (length out) h in
+    let some : min (min want (length ring)) (length out) ≡ goesOut (length ring) at want (length out) = goes-some (length ring) at want (length out) h in
     e
     ∙ rw (f, n) (out-runs ring at k h (omega (arith, g, some)) out (omega (arith, g, some)))
     ∙ ap (λ (j : ℕ). queue ring at j ++ drop j out) g

@@ -20,15 +20,15 @@ abbrev pub has : Ring → ℕ → ℕ → Bool
 has g n k = ltb (g .start) n && leb (g .stored) n && leb k (g .stored)
 
 -- without its k oldest bytes: start moves on by k, round the ring's end
-abbrev pub left : Ring → ℕ → ℕ → Ring
-left g n k = cond (has g n k) (record { start = wrap n (g .start + k); stored = g .stored - k }) g
+abbrev pub leftAfter : Ring → ℕ → ℕ → Ring
+leftAfter g n k = cond (has g n k) (record { start = wrap n (g .start + k); stored = g .stored - k }) g
 
 -- as many as are wanted, stand in a ring of n bytes and find room; none from a start outside it
-abbrev pub goes : ℕ → ℕ → ℕ → ℕ → ℕ
-goes n start want room = cond (ltb start n) (min (min want n) room) 0
+abbrev pub goesOut : ℕ → ℕ → ℕ → ℕ → ℕ
+goesOut n start want room = cond (ltb start n) (min (min want n) room) 0
 
 -- the oldest bytes come first; what lies behind them in the part stays
 unfoldable pub takeOut : List ℕ → ℕ → ℕ → List ℕ → List ℕ
 takeOut ring start want out =
-    let k = goes (length ring) start want (length out) in
+    let k = goesOut (length ring) start want (length out) in
     queue ring start k ++ drop k out

@@ -6,7 +6,7 @@ ghost use Prim.Native.Nat.{_+_, _-_, _<_, _≤_, min};
 ghost use lib.ListN.{length, drop};
 ghost use lib.Seq.{paste};
 ghost use Rattle.rules.specs.Ring.{wrap, put};
-ghost use Rattle.ring.specs.Lent.{takes, putIn, has, left, goes, takeOut};
+ghost use Rattle.ring.specs.Lent.{takes, putIn, has, leftAfter, goesOut, takeOut};
 
 fn least(a: usize, b: usize) -> usize
     ensures { λ n. ⌜ n ≡ min a b ⌝ }
@@ -47,7 +47,7 @@ fn place(start: usize, k: usize, len: usize) -> usize
 
 // The ring without its k oldest bytes; as it was where it does not have them.
 pub fn leave(g: Ring, len: usize, k: usize) -> Ring
-    ensures { λ n. ⌜ n ≡ left g len k ⌝ }
+    ensures { λ n. ⌜ n ≡ leftAfter g len k ⌝ }
 {
     let start = g.start;
     let stored = g.stored;
@@ -102,7 +102,7 @@ pub fn put_in(ring: &mut [u8], g: Ring, bytes: &[u8]) -> bool
 
 // At most `want` bytes from `start` on, into the front of `out`: how many.
 pub fn take_out(ring: &[u8], start: usize, want: usize, out: &mut [u8]) -> usize
-    ensures { λ k. ⌜ k ≡ goes (length (now (ring .entry))) start want (length (now (out .entry))) ⌝ }
+    ensures { λ k. ⌜ k ≡ goesOut (length (now (ring .entry))) start want (length (now (out .entry))) ⌝ }
     ensures { λ _. ⌜ now (out .exit) ≡ takeOut (now (ring .entry)) start want (now (out .entry)) ⌝ }
 {
     let len = ring.len();

@@ -14,13 +14,13 @@ use Rattle.rules.specs.declared.Feed.{Feed}
 use Rattle.rules.specs.declared.Feeder.{Feeder}
 use Rattle.rules.specs.declared.Input.{Input}
 use Rattle.rules.specs.Record.{scanning, erred, idle, busy, stuck}
-use Rattle.rules.specs.Feeder.{stands, loading, fed, fedAt, gives}
+use Rattle.rules.specs.Feeder.{stands, loads, fed, fedAt, gives}
 use Rattle.rules.specs.Moves.{withFeeder}
 use Rattle.rules.specs.Calls.{rowOf, StartScan, Start, Stop, Abort, GetDestination, Fetch, GetState, GetSideInformation, Load, Eject, Reset}
 use Rattle.rules.specs.Calls.{SetFeederMode, GetFeederState, GetFeederMode, Bytes, SideEnded, Tray, Path, Tick, Call, scan, feeder, report, Reason}
-use Rattle.rules.specs.Calls.{n604, n601, n712, n404, n501, n711, n713, n603, numberOf, named, State, Outcome, Line, refuse, leaving, refused, answer}
+use Rattle.rules.specs.Calls.{n604, n601, n712, n404, n501, n711, n713, n603, numberOf, named, State, Outcome, Guard, refuse, leaving, refused, answer}
 use Rattle.rules.specs.Machine.{start, notHeld, notOurs, scanRefusals, feederRefusals, reportRefusals, refusals, scanEffect, feederEffect, reportEffect}
-use Rattle.rules.specs.Machine.{effect, lines, step}
+use Rattle.rules.specs.Machine.{effect, allGuards, step}
 use Rattle.rules.specs.Watch.{scanOf, wasAccepted, sign}
 use Rattle.rules.specs.Promises.{below, bears, First, noLine, refuses, passes, leaves, goes, OneOf, zero, here, there, reasons, leftBy, Refusal}
 use Rattle.rules.proofs.Choice.{or-r, and-l, and-r}
@@ -38,7 +38,7 @@ nonzero n713 = refl
 nonzero n603 = refl
 
 -- ---- the first line that holds
-first-one : {m n : ℕ} {ls : List Line} → First m ls → First n ls → m ≡ n
+first-one : {m n : ℕ} {ls : List Guard} → First m ls → First n ls → m ≡ n
 first-one noLine noLine = refl
 first-one (refuses e) (refuses f) = refl
 first-one (refuses e) (passes f q) = absurd (true≢false (sym e ∙ f))
@@ -49,7 +49,7 @@ first-one (leaves e) (goes f q) = absurd (true≢false (sym e ∙ f))
 first-one (goes e p) (leaves f) = absurd (true≢false (sym f ∙ e))
 first-one (goes e p) (goes f q) = first-one p q
 
-answers : (ls : List Line) (s : State) (c : Call) (o : Outcome) → o .number ≡ 0 → First (answer ls s c o .number) ls
+answers : (ls : List Guard) (s : State) (c : Call) (o : Outcome) → o .number ≡ 0 → First (answer ls s c o .number) ls
 unfolding answer
 answers [] s c o e = rw e noLine
 answers (refuse n true ∷ ls) s c o e = refuses refl
@@ -59,7 +59,7 @@ answers (leaving n false r ∷ ls) s c o e = goes refl (answers ls s c o e)
 
 -- ---- what the calls' lists and effects have in common, call by call
 -- no line leaves anything but all as it was
-abbrev keeping : List Line → Bool
+abbrev keeping : List Guard → Bool
 keeping [] = true
 keeping (refuse n t ∷ ls) = keeping ls
 keeping (leaving n t r ∷ ls) = false
@@ -103,18 +103,18 @@ formed (report (Tray v)) s = record { accepts = refl; names = refl; order = refl
 formed (report (Path v)) s = record { accepts = refl; names = refl; order = refl; keeps = refl }
 formed (report Tick) s = record { accepts = refl; names = refl; order = refl; keeps = refl }
 
-first-of : (s : State) (c : Call) → First (step s c .number) (lines c s)
+first-of : (s : State) (c : Call) → First (step s c .number) (allGuards c s)
 unfolding step
-first-of s c = answers (lines c s) s c (effect c s) (formed c s .accepts)
+first-of s c = answers (allGuards c s) s c (effect c s) (formed c s .accepts)
 
-pub in-order : (s : State) (c : Call) (n : ℕ) → (step s c .number ≡ n) ↔ First n (lines c s)
+pub in-order : (s : State) (c : Call) (n : ℕ) → (step s c .number ≡ n) ↔ First n (allGuards c s)
 in-order s c n = (
-  λ (e : step s c .number ≡ n). subst (λ (m : ℕ). First m (lines c s)) e (first-of s c),
-  λ (p : First n (lines c s)). first-one (first-of s c) p,
+  λ (e : step s c .number ≡ n). subst (λ (m : ℕ). First m (allGuards c s)) e (first-of s c),
+  λ (p : First n (allGuards c s)). first-one (first-of s c) p,
 )
 
 -- ---- the numbers named
-first-named : {n : ℕ} {ls : List Line} → First n ls → OneOf n (reasons ls)
+first-named : {n : ℕ} {ls : List Guard} → First n ls → OneOf n (reasons ls)
 first-named noLine = zero
 first-named (refuses e) = here
 first-named (passes e p) = there (first-named p)
@@ -130,18 +130,18 @@ only-named s c = subst (λ (rs : List Reason). OneOf (step s c .number) (n604 �
 
 -- ---- what holds of each answer
 -- no test of the list holds
-abbrev pub Clear : List Line → Type 0
+abbrev pub Clear : List Guard → Type 0
 Clear [] = Unit {0}
 Clear (refuse n t ∷ ls) = (t ≡ false) × Clear ls
 Clear (leaving n t r ∷ ls) = (t ≡ false) × Clear ls
 
 -- P of each line's refusal, the lines before it being clear
-abbrev pub Leaves : (Outcome → Type 0) → List Line → State → Call → Type 0
+abbrev pub Leaves : (Outcome → Type 0) → List Guard → State → Call → Type 0
 Leaves P [] s c = Unit {0}
 Leaves P (refuse n t ∷ ls) s c = P (refused n (s .box) s c) × (t ≡ false → Leaves P ls s c)
 Leaves P (leaving n t r ∷ ls) s c = (t ≡ true → P (refused n r s c)) × (t ≡ false → Leaves P ls s c)
 
-pub by-tests : (P : Outcome → Type 0) (ls : List Line) (s : State) (c : Call) (o : Outcome) → Leaves P ls s c → (Clear ls → P o)
+pub by-tests : (P : Outcome → Type 0) (ls : List Guard) (s : State) (c : Call) (o : Outcome) → Leaves P ls s c → (Clear ls → P o)
     → P (answer ls s c o)
 unfolding answer
 by-tests P [] s c o l ok = ok tt
@@ -159,15 +159,15 @@ Unloading P s c =
 -- its 713 comes to a feeder that is neither Busy nor Erred, and leaves it Unloaded
 no-sheet-left : (P : Outcome → Type 0) (s : State) (j : ℕ) → Unloading P s (feeder (Load j))
     → gives n501 (fedAt Input.Load (s .box .feeder)) ≡ false → gives n711 (fedAt Input.Load (s .box .feeder)) ≡ false
-    → gives n713 (loading (s .box .feeder .tray)) ≡ true
-    → P (refused n713 (withFeeder (stands (loading (s .box .feeder .tray) .next) (s .box .feeder)) (s .box)) s (feeder (Load j)))
+    → gives n713 (loads (s .box .feeder .tray)) ≡ true
+    → P (refused n713 (withFeeder (stands (loads (s .box .feeder .tray) .next) (s .box .feeder)) (s .box)) s (feeder (Load j)))
 unfolding fed
 no-sheet-left P s j u b x e =
     let h = is-ready (s .box .feeder .state) _ b x in
     rw (no-sheet (s .box .feeder .tray) e) (u j refl (h .free) (h .fit))
 
 -- a list that keeps all as it was
-keeping-leaves : (P : Outcome → Type 0) (ls : List Line) (s : State) (c : Call) → ((n : Reason) → P (refused n (s .box) s c))
+keeping-leaves : (P : Outcome → Type 0) (ls : List Guard) (s : State) (c : Call) → ((n : Reason) → P (refused n (s .box) s c))
     → keeping ls ≡ true → Leaves P ls s c
 keeping-leaves P [] s c kept e = tt
 keeping-leaves P (refuse n t ∷ ls) s c kept e = (kept n, λ _. keeping-leaves P ls s c kept e)
@@ -189,7 +189,7 @@ leaves-of P s (report c) kept u e = keeping-leaves P (refusals (report c) s) s (
 pub by-step : (P : Outcome → Type 0) (s : State) (c : Call) → ((n : Reason) → P (refused n (s .box) s c)) → Unloading P s c
     → (Clear (refusals c s) → P (effect c s)) → P (step s c)
 unfolding step
-by-step P s c kept u ok = by-tests P (lines c s) s c (effect c s) (kept n604, λ _. leaves-of P s c kept u (formed c s .keeps)) (λ k. ok (k .1))
+by-step P s c kept u ok = by-tests P (allGuards c s) s c (effect c s) (kept n604, λ _. leaves-of P s c kept u (formed c s .keeps)) (λ k. ok (k .1))
 
 -- ---- a refused call leaves all as it was and reports nothing, but for Load's 713
 accepted-not : (s : State) (c : Call) (o : Outcome) → o .number ≡ 0 → eqb (o .number) 0 ≡ false → Refusal s c o
@@ -209,7 +209,7 @@ load-refusing s j =
     let c = feeder (Load j) in
     let kept : (n : Reason) → eqb (numberOf n) 713 ≡ false → Refusing s c (refused n (s .box) s c) =
     λ n e _. record { values = refl; reply = refl; left = rw e } in
-    by-tests (Refusing s c) (lines c s) s c (effect c s) (
+    by-tests (Refusing s c) (allGuards c s) s c (effect c s) (
       kept n604 refl,
       λ _. (
         kept n712 refl,

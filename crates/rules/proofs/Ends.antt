@@ -19,7 +19,7 @@ use Rattle.rules.specs.Moves.{settled, given, readied, begun, released, 
 use Rattle.rules.specs.Calls.{Start, Stop, Fetch, SideEnded, Tick, Call, scan, report, Values, nothing, picture, Outcome, to}
 use Rattle.rules.specs.Machine.{accepted, scanEffect, reportEffect, effect, step}
 use Rattle.rules.specs.Watch.{scanOf, sign, ticks, counting, seconds, orElse, timeAnswered, stopAsked, World, after, live, holder, dueSecond}
-use Rattle.rules.specs.Promises.{OnTime, EndsBy, time, stop, abort, lastFetch, sideEnd, Fate, held, over, Silent, ticksIn, NotPutOff}
+use Rattle.rules.specs.Promises.{OnTime, EndsBy, byTime, stop, abort, lastFetch, sideEnd, Fate, held, over, Silent, ticksIn, NotPutOff}
 use Rattle.rules.proofs.Choice.{clash, and-l}
 use Rattle.rules.proofs.Sound.{holding}
 use Rattle.rules.proofs.Cases.{started-cases, stopped-cases, drained-cases, fetched-cases, sideEnded-cases, ticked-cases}
@@ -153,7 +153,7 @@ module _ (w : World) (t : Timely w) (m : Marked w) (q : Waiting w) (i : idle (sc
   course-of (second g) _ =
       ticked-cases (λ (x : Record). Course w (report Tick) (accepted nothing x (w .now))) (w .now .box) (λ e. clash e i)
       (λ _ e. ceases refl
-      (time (at-last (leb-true (moves.due (w .now .box)) (w .now .box .job .quiet + 1) e) (in-time w t i) (due-is w t i) (t .count i))))
+      (byTime (at-last (leb-true (moves.due (w .now .box)) (w .now .box .job .quiet + 1) e) (in-time w t i) (due-is w t i) (t .count i))))
       (λ _ _. goes i refl)
 
   pub fate : {j : ℕ} → holder w ≡ some j → (c : Call) → Fate j w c

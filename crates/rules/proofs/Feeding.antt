@@ -11,7 +11,7 @@ use Rattle.rules.specs.declared.Input.{Input}
 use Rattle.rules.specs.declared.Fed.{Fed}
 use Rattle.rules.specs.Record.{busy, stuck, on, implies}
 use Rattle.rules.specs.Calls.{n501, n711, n713}
-use Rattle.rules.specs.Feeder.{becomes, denied, ready, loading, fed, gives, driven, ejecting}
+use Rattle.rules.specs.Feeder.{becomes, denied, ready, loads, fed, gives, driven, ejecting}
 use Rattle.rules.proofs.Choice.{choice, vacuous, tollens, and-r}
 use Rattle.rules.proofs.Sound.{FeederFit}
 
@@ -32,7 +32,7 @@ is-ready s x =
     (λ _ _ e. absurd (true≢false e)) (λ b e _ _. record { free = b; fit = e; told = refl })
 
 -- Load's 713 leaves it Unloaded
-pub no-sheet : (tray : ℕ) → gives n713 (loading tray) ≡ true → loading tray .next ≡ Feed.Unloaded
+pub no-sheet : (tray : ℕ) → gives n713 (loads tray) ≡ true → loads tray .next ≡ Feed.Unloaded
 no-sheet tray =
     choice (λ (d : Fed). gives n713 d ≡ true → d .next ≡ Feed.Unloaded) (eqb tray 0) (λ _ _. refl) (λ _ e. absurd (false≢true e))
 

@@ -14,7 +14,7 @@ use Rattle.rules.specs.declared.Record.{Record}
 use Rattle.rules.specs.Record.{greatest, negatives, endless, mostSides, signed, counted, sound}
 use Rattle.rules.specs.Moves.{nextJob, name}
 use Rattle.rules.specs.Calls.{StartScan, Fetch, Call, scan, n604, named, State, Outcome}
-use Rattle.rules.specs.Machine.{listed, sidesListed, same, runBy, lines, step, Ran, run, start, refusals}
+use Rattle.rules.specs.Machine.{listed, sidesListed, same, runBy, allGuards, step, Ran, run, start, refusals}
 use Rattle.rules.specs.Watch.{wasAccepted, sign, scanOf, Tagged, World, after, live, born, lived, holder, told}
 use Rattle.rules.specs.Promises.{reasons, below, bears, All, Ringed, First, OneOf, Refusal, Sides, Ends, OnTime, Fate, Silent, NotPutOff}
 use Rattle.rules.specs.Promises.{OfAnother, Yields}
@@ -35,7 +35,7 @@ use Rattle.rules.proofs.Others as others
 use Rattle.rules.proofs.Others.{Numbers, live-numbers}
 
 -- ---- 1. In order: the number is n exactly when n's test holds and no earlier one does, and 0 exactly when none holds
-pub in-order : (s : State) (c : Call) (n : ℕ) → (step s c .number ≡ n) ↔ First n (lines c s)
+pub in-order : (s : State) (c : Call) (n : ℕ) → (step s c .number ≡ n) ↔ First n (allGuards c s)
 in-order s c n = answers.in-order s c n
 
 -- only 604 and the numbers named for the call occur

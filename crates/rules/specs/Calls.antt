@@ -128,9 +128,9 @@ lent (report c) = []
 
 -- ---- refusals
 -- a line of the table: reason, test, and what it leaves where that is not all as it was
-pub data Line : Type 0 where
-  refuse : Reason → Bool → Line
-  leaving : Reason → Bool → Record → Line
+pub data Guard : Type 0 where
+  refuse : Reason → Bool → Guard
+  leaving : Reason → Bool → Record → Guard
 
 abbrev pub to : Record → State → State
 to r s = record { box = r; bytes = s .bytes }
@@ -140,7 +140,7 @@ abbrev pub refused : Reason → Record → State → Call → Outcome
 refused n r s c = record { number = numberOf n; values = nothing; state = to r s; reply = lent c }
 
 -- the first test that holds gives the answer; where none does, the call is accepted
-unfoldable pub answer : List Line → State → Call → Outcome → Outcome
+unfoldable pub answer : List Guard → State → Call → Outcome → Outcome
 answer [] s c ok = ok
 answer (refuse n true ∷ ls) s c ok = refused n (s .box) s c
 answer (refuse n false ∷ ls) s c ok = answer ls s c ok

@@ -132,8 +132,8 @@ out n v r bytes reply = record { number = n; values = v; state = record { box = 
 abbrev pub done : Record → Outcome
 done r = out 0 nothing r five []
 
-abbrev pub told : Values → Record → Outcome
-told v r = out 0 v r five []
+abbrev pub taking : Values → Record → Outcome
+taking v r = out 0 v r five []
 
 -- a fetch: head, picture bytes, later bytes of the reply
 abbrev pub sent : ℕ → Bool → List ℕ → List ℕ → Record → Outcome
@@ -144,21 +144,21 @@ abbrev pub took : ℕ → List ℕ → Record → Outcome
 took k bytes r = out 0 (stored k) r bytes []
 
 -- ---- cases of calls
-abbrev pub after : (says : String) (s : State) (cs : List Call) (c : Call) (due : Outcome) → final s cs c ≡ due → Case Outcome
-after says s cs c due e = that says (final s cs c) due e
+abbrev pub afterwards : (says : String) (s : State) (cs : List Call) (c : Call) (due : Outcome) → final s cs c ≡ due → Case Outcome
+afterwards says s cs c due e = that says (final s cs c) due e
 
 abbrev pub case : (says : String) (s : State) (c : Call) (due : Outcome) → final s [] c ≡ due → Case Outcome
-case says s c due e = after says s [] c due e
+case says s c due e = afterwards says s [] c due e
 
 -- refused, all as it was, and no reply lent
-abbrev pub left : ℕ → State → Outcome
-left n s = out n nothing (s .box) (s .bytes) []
+abbrev pub refusing : ℕ → State → Outcome
+refusing n s = out n nothing (s .box) (s .bytes) []
 
-abbrev pub keeps : (says : String) (s : State) (c : Call) (n : ℕ) → final s [] c ≡ left n s → Case Outcome
-keeps says s c n e = after says s [] c (left n s) e
+abbrev pub keeps : (says : String) (s : State) (c : Call) (n : ℕ) → final s [] c ≡ refusing n s → Case Outcome
+keeps says s c n e = afterwards says s [] c (refusing n s) e
 
-abbrev pub ticks : ℕ → List Call
-ticks n = replicate n (report Tick)
+abbrev pub tickings : ℕ → List Call
+tickings n = replicate n (report Tick)
 
 -- a call and its outcome, in a list of calls
 pub record Turn : Type 0 where
@@ -168,8 +168,8 @@ pub record Turn : Type 0 where
 abbrev pub turn : Call → Outcome → Turn
 turn c o = record { call = c; outcome = o }
 
-abbrev pub callOf : Turn → Call
-callOf t = t .call
+abbrev pub turnCall : Turn → Call
+turnCall t = t .call
 
 abbrev pub outcomeOf : Turn → Outcome
 outcomeOf t = t .outcome
@@ -213,5 +213,5 @@ abbrev pub faulty : Settings → Feeder → State
 faulty t f = at (box (scanner Erred Timeout) (job 41 41 77 13 0) (side 6 8 90) t f (ring 3 0))
 
 -- not sound: Idle with quiet 13
-abbrev pub unsound : State
-unsound = at (box (scanner Idle Timeout) (job 0 41 77 13 0) (side 1 0 90) (settings 1 0) (feed Loaded Jammed 1 0) (ring 3 0))
+abbrev pub unsoundState : State
+unsoundState = at (box (scanner Idle Timeout) (job 0 41 77 13 0) (side 1 0 90) (settings 1 0) (feed Loaded Jammed 1 0) (ring 3 0))

@@ -40,13 +40,13 @@ abbrev pub ready : Feed → Fed → Fed
 ready s x = cond (busy s) (denied n501 s) (cond (stuck s) (denied n711 s) x)
 
 -- Load: tray empty: 713 and Unloaded, from Loaded too. Else Loaded
-abbrev pub loading : ℕ → Fed
-loading tray = cond (eqb tray 0) (denied n713 Feed.Unloaded) (becomes Feed.Loaded)
+abbrev pub loads : ℕ → Fed
+loads tray = cond (eqb tray 0) (denied n713 Feed.Unloaded) (becomes Feed.Loaded)
 
 -- of mode, state, input, tray and path sensor: the next state, and the number
 unfoldable pub fed : ℕ → Feed → Input → ℕ → ℕ → Fed
 -- Load (501 if Busy, 711, 713)
-fed mode s Input.Load tray path = ready s (loading tray)
+fed mode s Input.Load tray path = ready s (loads tray)
 -- Eject (501 if Busy, 711): Unloaded
 fed mode s Input.EjectOne tray path = ready s (becomes Feed.Unloaded)
 fed mode s Input.EjectAll tray path = ready s (becomes Feed.Unloaded)

@@ -296,8 +296,8 @@ sentences =
 abbrev pub scans : List Scan
 scans = Idle ∷ Pending ∷ Scanning ∷ Finishing ∷ Erred ∷ []
 
-abbrev pub feeds : List Feed
-feeds = Unloaded ∷ Loaded ∷ Busy ∷ Stuck ∷ []
+abbrev pub allFeeds : List Feed
+allFeeds = Unloaded ∷ Loaded ∷ Busy ∷ Stuck ∷ []
 
 pub words : List (Case (List Bool))
 words =
@@ -306,9 +306,9 @@ words =
     ∷ that "Scanning" (map scanning scans) (false ∷ false ∷ true ∷ false ∷ false ∷ []) refl
     ∷ that "Finishing" (map finishing scans) (false ∷ false ∷ false ∷ true ∷ false ∷ []) refl
     ∷ that "Erred" (map erred scans) (false ∷ false ∷ false ∷ false ∷ true ∷ []) refl
-    ∷ that "the feeder Unloaded" (map unloaded feeds) (true ∷ false ∷ false ∷ false ∷ []) refl
-    ∷ that "the feeder Busy" (map busy feeds) (false ∷ false ∷ true ∷ false ∷ []) refl
-    ∷ that "the feeder Erred" (map stuck feeds) (false ∷ false ∷ false ∷ true ∷ []) refl
+    ∷ that "the feeder Unloaded" (map unloaded allFeeds) (true ∷ false ∷ false ∷ false ∷ []) refl
+    ∷ that "the feeder Busy" (map busy allFeeds) (false ∷ false ∷ true ∷ false ∷ []) refl
+    ∷ that "the feeder Erred" (map stuck allFeeds) (false ∷ false ∷ false ∷ true ∷ []) refl
     ∷ that "a setting, mark or sensor is 1" (map on (0 ∷ 1 ∷ 2 ∷ [])) (false ∷ true ∷ false ∷ []) refl
     ∷ that "it is 0 or 1" (map marked (0 ∷ 1 ∷ 2 ∷ [])) (true ∷ true ∷ false ∷ []) refl
     ∷ that "a means b" (implies false false ∷ implies false true ∷ implies true false ∷ implies true true ∷ [])

@@ -8,13 +8,13 @@ use Rattle.rules.specs.declared.Record.{Record}
 use Rattle.rules.specs.declared.Input.{Input}
 use Rattle.rules.specs.Record.{endless, counted, idle, pending, scanning, erred, unloaded, on, marked, granting, fresh, sound}
 use Rattle.rules.specs.Ring.{wrap, put, queue}
-use Rattle.rules.specs.Feeder.{stands, trayAt, simplex, loading, fedAt, gives, ejecting, jamStops, sheetStops}
+use Rattle.rules.specs.Feeder.{stands, trayAt, simplex, loads, fedAt, gives, ejecting, jamStops, sheetStops}
 use Rattle.rules.specs.Moves.{device, headed, withFeeder, fedBy, ended, settled, given, started, stopped, name, scanLength, least, last}
 use Rattle.rules.specs.Moves.{fetched, filled, sideEnded, pathed, ticked}
 use Rattle.rules.specs.Calls.{ScanCall, StartScan, Start, Stop, Abort, GetDestination, Fetch, GetState, GetSideInformation, FeederCall, Load, Eject}
 use Rattle.rules.specs.Calls.{Reset, SetFeederMode, GetFeederState, GetFeederMode, Report, Bytes, SideEnded, Tray, Path, Tick, Call, scan, feeder}
 use Rattle.rules.specs.Calls.{report, n604, n601, n712, n404, n501, n711, n713, n603, State, Values, nothing, time, destination, picture, state, sides}
-use Rattle.rules.specs.Calls.{feeding, mode, stored, Outcome, Line, refuse, leaving, to, answer}
+use Rattle.rules.specs.Calls.{feeding, mode, stored, Outcome, Guard, refuse, leaving, to, answer}
 
 -- ---- tests
 -- 0, 1 or 2
@@ -42,14 +42,14 @@ same (x ∷ xs) [] = false
 same (x ∷ xs) (y ∷ ys) = eqb x y && same xs ys
 
 -- scan calls: when a side is to begin from the feeder
-abbrev pub beginning : ℕ → ℕ → Record → List Line
+abbrev pub beginning : ℕ → ℕ → Record → List Guard
 beginning from c r =
     refuse n711 (not (eqb c 0) && jamStops (settled from (r .settings .feeder)) (r .feeder))
     ∷ refuse n713 (not (eqb c 0) && sheetStops (settled from (r .settings .feeder)) (r .feeder))
     ∷ []
 
 -- ---- refusals of each call; for the ring's length n
-unfoldable pub scanRefusals : ScanCall → Record → List Line
+unfoldable pub scanRefusals : ScanCall → Record → List Guard
 scanRefusals (StartScan from c append asked) r =
     refuse n601 (not (listed append && sidesListed from c r)) ∷ refuse n501 (not (idle (r .scanner .state))) ∷ beginning from c r
 scanRefusals (Start j from c) r =
@@ -65,13 +65,13 @@ scanRefusals (Fetch called most reply) r =
 scanRefusals GetState r = []
 scanRefusals GetSideInformation r = []
 
-unfoldable pub feederRefusals : FeederCall → Record → List Line
+unfoldable pub feederRefusals : FeederCall → Record → List Guard
 -- 501 and 711 are tested before 713, which asks the tray alone
 feederRefusals (Load j) r =
     refuse n712 (notOurs j r)
     ∷ refuse n501 (gives n501 (fedAt Input.Load (r .feeder)))
     ∷ refuse n711 (gives n711 (fedAt Input.Load (r .feeder)))
-    ∷ leaving n713 (gives n713 (loading (r .feeder .tray))) (withFeeder (stands (loading (r .feeder .tray) .next) (r .feeder)) r)
+    ∷ leaving n713 (gives n713 (loads (r .feeder .tray))) (withFeeder (stands (loads (r .feeder .tray) .next) (r .feeder)) r)
     ∷ []
 feederRefusals (Eject j v) r =
     refuse n601 (not (listed v))
@@ -85,7 +85,7 @@ feederRefusals (SetFeederMode j m) r =
 feederRefusals GetFeederState r = []
 feederRefusals GetFeederMode r = []
 
-unfoldable pub reportRefusals : Report → Record → ℕ → List Line
+unfoldable pub reportRefusals : Report → Record → ℕ → List Guard
 reportRefusals (Bytes bs) r n =
     refuse n501 (not (scanning (r .scanner .state))) ∷ refuse n603 (ltb (n - r .ring .stored) (length bs)) ∷ []
 reportRefusals SideEnded r n = refuse n501 (not (scanning (r .scanner .state))) ∷ []
@@ -93,7 +93,7 @@ reportRefusals (Tray v) r n = refuse n601 (not (marked v)) ∷ []
 reportRefusals (Path v) r n = refuse n601 (not (marked v)) ∷ []
 reportRefusals Tick r n = []
 
-unfoldable pub refusals : Call → State → List Line
+unfoldable pub refusals : Call → State → List Guard
 refusals (scan c) s = scanRefusals c (s .box)
 refusals (feeder c) s = feederRefusals c (s .box)
 refusals (report c) s = reportRefusals c (s .box) (length (s .bytes))
@@ -155,11 +155,11 @@ effect (feeder c) s = feederEffect c s
 effect (report c) s = reportEffect c s
 
 -- ---- 604 before every list: record not sound with the lent ring
-abbrev pub lines : Call → State → List Line
-lines c s = refuse n604 (not (sound (s .box) (length (s .bytes)))) ∷ refusals c s
+abbrev pub allGuards : Call → State → List Guard
+allGuards c s = refuse n604 (not (sound (s .box) (length (s .bytes)))) ∷ refusals c s
 
 unfoldable pub step : State → Call → Outcome
-step s c = answer (lines c s) s c (effect c s)
+step s c = answer (allGuards c s) s c (effect c s)
 
 -- ---- a list of calls: each gets the record and ring as the last one left them
 pub record Ran : Type 0 where

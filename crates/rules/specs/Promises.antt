@@ -16,7 +16,7 @@ use Rattle.rules.specs.Feeder.{stands}
 use Rattle.rules.specs.Moves.{withFeeder, name}
 use Rattle.rules.specs.Calls.{StartScan, Start, Stop, Abort, GetDestination, Fetch, GetState, GetSideInformation, Eject, Reset, SetFeederMode}
 use Rattle.rules.specs.Calls.{GetFeederState, GetFeederMode, rowOf, Load, SideEnded, Tick, Call, scan, feeder, report, Reason, numberOf, State, nothing}
-use Rattle.rules.specs.Calls.{picture, Outcome, lent, Line, refuse, leaving, to}
+use Rattle.rules.specs.Calls.{picture, Outcome, lent, Guard, refuse, leaving, to}
 use Rattle.rules.specs.Machine.{step}
 use Rattle.rules.specs.Watch.{scanOf, bytesIn, countIn, sign, ticks, seconds, Tagged, byteOf, bytesAccepted, waiting, stopAsked, World, after, holder}
 use Rattle.rules.specs.Watch.{dueSecond}
@@ -33,12 +33,12 @@ pub record Ringed (ring : List ℕ) : Type 0 where
 
 -- ---- demand 1
 -- n is the number of the first line whose test holds, or 0 where none does
-pub data First : ℕ → List Line → Type 0 where
+pub data First : ℕ → List Guard → Type 0 where
   noLine : First 0 []
-  refuses : {n : Reason} {t : Bool} {ls : List Line} → t ≡ true → First (numberOf n) (refuse n t ∷ ls)
-  passes : {m : ℕ} {n : Reason} {t : Bool} {ls : List Line} → t ≡ false → First m ls → First m (refuse n t ∷ ls)
-  leaves : {n : Reason} {t : Bool} {r : Record} {ls : List Line} → t ≡ true → First (numberOf n) (leaving n t r ∷ ls)
-  goes : {m : ℕ} {n : Reason} {t : Bool} {r : Record} {ls : List Line} → t ≡ false → First m ls → First m (leaving n t r ∷ ls)
+  refuses : {n : Reason} {t : Bool} {ls : List Guard} → t ≡ true → First (numberOf n) (refuse n t ∷ ls)
+  passes : {m : ℕ} {n : Reason} {t : Bool} {ls : List Guard} → t ≡ false → First m ls → First m (refuse n t ∷ ls)
+  leaves : {n : Reason} {t : Bool} {r : Record} {ls : List Guard} → t ≡ true → First (numberOf n) (leaving n t r ∷ ls)
+  goes : {m : ℕ} {n : Reason} {t : Bool} {r : Record} {ls : List Guard} → t ≡ false → First m ls → First m (leaving n t r ∷ ls)
 
 -- 0, or the number of one of the reasons
 pub data OneOf : ℕ → List Reason → Type 0 where
@@ -52,7 +52,7 @@ below n [] = true
 below n (r ∷ rs) = ltb n (rowOf r) && below (rowOf r) rs
 
 -- the reasons of a list of lines
-abbrev pub reasons : List Line → List Reason
+abbrev pub reasons : List Guard → List Reason
 reasons [] = []
 reasons (refuse n t ∷ ls) = n ∷ reasons ls
 reasons (leaving n t r ∷ ls) = n ∷ reasons ls
@@ -114,7 +114,7 @@ bears (report c) = none
 -- what may end the job held: that Tick, Stop in Pending or Erred, Abort, or, where a Stop was accepted since the side began,
 -- a fetch that says last, or Side ended with no byte waiting
 pub data EndsBy (w : World) : Call → Type 0 where
-  time : suc (seconds (w .past)) ≡ dueSecond w → EndsBy w (report Tick)
+  byTime : suc (seconds (w .past)) ≡ dueSecond w → EndsBy w (report Tick)
   stop : {j : ℕ} → j ≡ w .now .box .job .held → (pending (scanOf (w .now)) || erred (scanOf (w .now))) ≡ true → EndsBy w (scan (Stop j))
   abort : {j : ℕ} → j ≡ w .now .box .job .held → EndsBy w (scan (Abort j))
   lastFetch : {name reply bytes : List ℕ} {most k : ℕ} → stopAsked (w .past) ≡ true

@@ -20,41 +20,41 @@ use Rattle.rules.specs.Moves.{finished, caught, pathed, ticked, name}
 use Rattle.rules.specs.Calls.{StartScan, Start, Stop, Abort, GetDestination, Fetch, GetState, GetSideInformation, Load, Eject, Reset, SetFeederMode}
 use Rattle.rules.specs.Calls.{GetFeederState, GetFeederMode, Bytes, SideEnded, Tray, Path, Tick, scan, feeder, report, nothing, time, destination}
 use Rattle.rules.specs.Calls.{picture, state, sides, feeding, mode, stored, Outcome, Reason, n604, n601, n712, n404, n501, n711, n713, n603, numberOf}
-use Rattle.rules.specs.Calls.{rowOf, named, Line, refuse, leaving, answer}
-use Rattle.rules.specs.Machine.{run, start, lines, notHeld, notOurs}
-use Rattle.rules.specs.Cases.{Case, that, final, after, case, keeps, ticks, at, boxed, resting, holding, drawing, drawingLast, copying, draining}
-use Rattle.rules.specs.Cases.{clearing, faulty, unsound, out, done, told, sent, took, box, scanner, job, side, settings, feed, ring, minusOne}
+use Rattle.rules.specs.Calls.{rowOf, named, Guard, refuse, leaving, answer}
+use Rattle.rules.specs.Machine.{run, start, allGuards, notHeld, notOurs}
+use Rattle.rules.specs.Cases.{Case, that, final, afterwards, case, keeps, tickings, at, boxed, resting, holding, drawing, drawingLast, copying, draining}
+use Rattle.rules.specs.Cases.{clearing, faulty, unsoundState, out, done, taking, sent, took, box, scanner, job, side, settings, feed, ring, minusOne}
 use Rattle.rules.specs.Cases.{minusTwo, five, nine, J41, J41-006, J41-007, J42, J42-001, J0-001, J1234567890, J1234567890-987, J4294967295-999}
-use Rattle.rules.specs.Cases.{J1-001, J1-002, J2, Turn, turn, callOf, outcomeOf}
+use Rattle.rules.specs.Cases.{J1-001, J1-002, J2, Turn, turn, turnCall, outcomeOf}
 
 -- ---- both sides of each line: the cases marked *
 pub starred : List (Case Outcome)
 unfolding final
 starred =
     case "asked 4: granted 5" (resting (settings 1 0) (feed Loaded Jammed 1 0)) (scan (StartScan 0 0 1 4))
-    (told (time 5) (box (scanner Pending None) (job 42 42 5 0 0) (side 1 0 90) (settings 0 1) (feed Loaded Jammed 1 0) (ring 3 0))) refl
+    (taking (time 5) (box (scanner Pending None) (job 42 42 5 0 0) (side 1 0 90) (settings 0 1) (feed Loaded Jammed 1 0) (ring 3 0))) refl
     ∷ case "asked 5: granted 5" (resting (settings 1 0) (feed Loaded Jammed 1 0)) (scan (StartScan 0 0 1 5))
-    (told (time 5) (box (scanner Pending None) (job 42 42 5 0 0) (side 1 0 90) (settings 0 1) (feed Loaded Jammed 1 0) (ring 3 0))) refl
+    (taking (time 5) (box (scanner Pending None) (job 42 42 5 0 0) (side 1 0 90) (settings 0 1) (feed Loaded Jammed 1 0) (ring 3 0))) refl
     ∷ case "asked 600: granted 600" (resting (settings 1 0) (feed Loaded Jammed 1 0)) (scan (StartScan 0 0 1 600))
-    (told (time 600) (box (scanner Pending None) (job 42 42 600 0 0) (side 1 0 90) (settings 0 1) (feed Loaded Jammed 1 0) (ring 3 0))) refl
+    (taking (time 600) (box (scanner Pending None) (job 42 42 600 0 0) (side 1 0 90) (settings 0 1) (feed Loaded Jammed 1 0) (ring 3 0))) refl
     ∷ case "asked 601: granted 600" (resting (settings 1 0) (feed Loaded Jammed 1 0)) (scan (StartScan 0 0 1 601))
-    (told (time 600) (box (scanner Pending None) (job 42 42 600 0 0) (side 1 0 90) (settings 0 1) (feed Loaded Jammed 1 0) (ring 3 0))) refl
+    (taking (time 600) (box (scanner Pending None) (job 42 42 600 0 0) (side 1 0 90) (settings 0 1) (feed Loaded Jammed 1 0) (ring 3 0))) refl
     ∷ case "asked 0: granted 60" (resting (settings 1 0) (feed Loaded Jammed 1 0)) (scan (StartScan 0 0 1 0))
-    (told (time 60) (box (scanner Pending None) (job 42 42 60 0 0) (side 1 0 90) (settings 0 1) (feed Loaded Jammed 1 0) (ring 3 0))) refl
+    (taking (time 60) (box (scanner Pending None) (job 42 42 60 0 0) (side 1 0 90) (settings 0 1) (feed Loaded Jammed 1 0) (ring 3 0))) refl
     ∷ case "SideCount 999 taken" (resting (settings 1 0) (feed Loaded Jammed 1 0)) (scan (StartScan 1 999 1 123))
-    (told (time 123) (box (scanner Scanning None) (job 42 42 123 0 0) (side 1 999 91) (settings 1 1) (feed Busy Jammed 1 0) (ring 3 0))) refl
+    (taking (time 123) (box (scanner Scanning None) (job 42 42 123 0 0) (side 1 999 91) (settings 1 1) (feed Busy Jammed 1 0) (ring 3 0))) refl
     ∷ keeps "SideCount 1000 is 601" (resting (settings 1 0) (feed Loaded Jammed 1 0)) (scan (StartScan 1 1000 1 123)) 601 refl
     ∷ keeps "SideCount −2 is 601" (resting (settings 1 0) (feed Loaded Jammed 1 0)) (scan (StartScan 1 minusTwo 1 123)) 601 refl
     ∷ keeps "glass 2 is 601" (resting (settings 1 0) (feed Loaded Jammed 1 0)) (scan (StartScan 0 2 1 123)) 601 refl
-    ∷ after "granted 10, Pending: nine ticks hold it" (resting (settings 1 0) (feed Loaded Jammed 1 0)) (scan (StartScan 0 0 1 10) ∷ ticks 8) (report Tick)
+    ∷ afterwards "granted 10, Pending: nine tickings hold it" (resting (settings 1 0) (feed Loaded Jammed 1 0)) (scan (StartScan 0 0 1 10) ∷ tickings 8) (report Tick)
     (done (box (scanner Pending None) (job 42 42 10 9 0) (side 1 0 90) (settings 0 1) (feed Loaded Jammed 1 0) (ring 3 0))) refl
-    ∷ after "the tenth ends it" (resting (settings 1 0) (feed Loaded Jammed 1 0)) (scan (StartScan 0 0 1 10) ∷ ticks 9) (report Tick)
+    ∷ afterwards "the tenth ends it" (resting (settings 1 0) (feed Loaded Jammed 1 0)) (scan (StartScan 0 0 1 10) ∷ tickings 9) (report Tick)
     (done (box (scanner Idle Timeout) (job 0 42 10 0 0) (side 1 0 90) (settings 0 1) (feed Loaded Jammed 1 0) (ring 0 0))) refl
-    ∷ after "an empty fetch after the ninth" (resting (settings 1 0) (feed Loaded Jammed 1 0)) (scan (StartScan 0 0 1 10) ∷ ticks 9)
+    ∷ afterwards "an empty fetch afterwards the ninth" (resting (settings 1 0) (feed Loaded Jammed 1 0)) (scan (StartScan 0 0 1 10) ∷ tickings 9)
     (scan (Fetch J42-001 255 nine))
     (sent 0 false [] (65 ∷ 66 ∷ 67 ∷ 68 ∷ 69 ∷ [])
     (box (scanner Pending None) (job 42 42 10 9 0) (side 1 0 90) (settings 0 1) (feed Loaded Jammed 1 0) (ring 3 0))) refl
-    ∷ after "puts off nothing" (resting (settings 1 0) (feed Loaded Jammed 1 0)) (scan (StartScan 0 0 1 10) ∷ ticks 9 ++ scan (Fetch J42-001 255 nine) ∷ [])
+    ∷ afterwards "puts off nothing" (resting (settings 1 0) (feed Loaded Jammed 1 0)) (scan (StartScan 0 0 1 10) ∷ tickings 9 ++ scan (Fetch J42-001 255 nine) ∷ [])
     (report Tick)
     (done (box (scanner Idle Timeout) (job 0 42 10 0 0) (side 1 0 90) (settings 0 1) (feed Loaded Jammed 1 0) (ring 0 0))) refl
     ∷ case "Load from Loaded, tray empty: 713, Unloaded" (resting (settings 1 0) (feed Loaded Jammed 0 0)) (feeder (Load 0))
@@ -67,7 +67,7 @@ starred =
     (done (box (scanner Pending Timeout) (job 41 41 77 0 0) (side 0 0 90) (settings 0 1) (feed Loaded Jammed 1 0) (ring 3 0))) refl
     ∷ case "job 4,294,967,295 is followed by 1"
     (at (box (scanner Idle Timeout) (job 0 4294967295 77 0 0) (side 1 0 90) (settings 1 0) (feed Loaded Jammed 1 0) (ring 3 0))) (scan (StartScan 0 0 1 123))
-    (told (time 123) (box (scanner Pending None) (job 1 1 123 0 0) (side 1 0 90) (settings 0 1) (feed Loaded Jammed 1 0) (ring 3 0))) refl
+    (taking (time 123) (box (scanner Pending None) (job 1 1 123 0 0) (side 1 0 90) (settings 0 1) (feed Loaded Jammed 1 0) (ring 3 0))) refl
     ∷ []
 
 -- ---- StartScan: settings stored, job is the last number plus 1, FailureCode none; the feeder's FailureCode, the sensors and the ring stay
@@ -75,53 +75,53 @@ pub startScans : List (Case Outcome)
 unfolding final
 startScans =
     case "from the feeder: Loaded becomes Busy, Scanning, DestinationID rises" (resting (settings 1 0) (feed Loaded Jammed 1 0)) (scan (StartScan 1 7 1 123))
-    (told (time 123) (box (scanner Scanning None) (job 42 42 123 0 0) (side 1 7 91) (settings 1 1) (feed Busy Jammed 1 0) (ring 3 0))) refl
+    (taking (time 123) (box (scanner Scanning None) (job 42 42 123 0 0) (side 1 7 91) (settings 1 1) (feed Busy Jammed 1 0) (ring 3 0))) refl
     ∷ case "from the feeder: Unloaded with a sheet becomes Busy" (resting (settings 0 1) (feed Unloaded Jammed 1 0)) (scan (StartScan 1 2 0 123))
-    (told (time 123) (box (scanner Scanning None) (job 42 42 123 0 0) (side 1 2 91) (settings 1 0) (feed Busy Jammed 1 0) (ring 3 0))) refl
+    (taking (time 123) (box (scanner Scanning None) (job 42 42 123 0 0) (side 1 2 91) (settings 1 0) (feed Busy Jammed 1 0) (ring 3 0))) refl
     ∷ case "from the feeder: Loaded with an empty tray becomes Busy" (resting (settings 0 0) (feed Loaded None 0 0)) (scan (StartScan 1 1 1 123))
-    (told (time 123) (box (scanner Scanning None) (job 42 42 123 0 0) (side 1 1 91) (settings 1 1) (feed Busy None 0 0) (ring 3 0))) refl
+    (taking (time 123) (box (scanner Scanning None) (job 42 42 123 0 0) (side 1 1 91) (settings 1 1) (feed Busy None 0 0) (ring 3 0))) refl
     ∷ case "on the glass: the feeder stays Loaded" (resting (settings 1 1) (feed Loaded Jammed 1 0)) (scan (StartScan 0 1 0 123))
-    (told (time 123) (box (scanner Scanning None) (job 42 42 123 0 0) (side 1 1 91) (settings 0 0) (feed Loaded Jammed 1 0) (ring 3 0))) refl
+    (taking (time 123) (box (scanner Scanning None) (job 42 42 123 0 0) (side 1 1 91) (settings 0 0) (feed Loaded Jammed 1 0) (ring 3 0))) refl
     ∷ case "on the glass: the feeder stays Unloaded, with an empty tray too" (resting (settings 1 1) (feed Unloaded Jammed 0 0)) (scan (StartScan 0 1 0 123))
-    (told (time 123) (box (scanner Scanning None) (job 42 42 123 0 0) (side 1 1 91) (settings 0 0) (feed Unloaded Jammed 0 0) (ring 3 0))) refl
+    (taking (time 123) (box (scanner Scanning None) (job 42 42 123 0 0) (side 1 1 91) (settings 0 0) (feed Unloaded Jammed 0 0) (ring 3 0))) refl
     ∷ case "on the glass: the feeder stays Erred" (resting (settings 1 0) (feed Stuck Jammed 0 1)) (scan (StartScan 0 1 1 123))
-    (told (time 123) (box (scanner Scanning None) (job 42 42 123 0 0) (side 1 1 91) (settings 0 1) (feed Stuck Jammed 0 1) (ring 3 0))) refl
+    (taking (time 123) (box (scanner Scanning None) (job 42 42 123 0 0) (side 1 1 91) (settings 0 1) (feed Stuck Jammed 0 1) (ring 3 0))) refl
     ∷ case "device-setting keeps UseFeeder 1 and Append 0" (resting (settings 1 0) (feed Loaded Jammed 1 0)) (scan (StartScan 2 7 2 123))
-    (told (time 123) (box (scanner Scanning None) (job 42 42 123 0 0) (side 1 7 91) (settings 1 0) (feed Busy Jammed 1 0) (ring 3 0))) refl
+    (taking (time 123) (box (scanner Scanning None) (job 42 42 123 0 0) (side 1 7 91) (settings 1 0) (feed Busy Jammed 1 0) (ring 3 0))) refl
     ∷ case "device-setting keeps UseFeeder 0 and Append 1" (resting (settings 0 1) (feed Loaded Jammed 1 0)) (scan (StartScan 2 1 2 123))
-    (told (time 123) (box (scanner Scanning None) (job 42 42 123 0 0) (side 1 1 91) (settings 0 1) (feed Loaded Jammed 1 0) (ring 3 0))) refl
+    (taking (time 123) (box (scanner Scanning None) (job 42 42 123 0 0) (side 1 1 91) (settings 0 1) (feed Loaded Jammed 1 0) (ring 3 0))) refl
     ∷ case "−1 from the feeder stays −1" (resting (settings 0 1) (feed Loaded Jammed 1 0)) (scan (StartScan 1 minusOne 0 123))
-    (told (time 123) (box (scanner Scanning None) (job 42 42 123 0 0) (side 1 minusOne 91) (settings 1 0) (feed Busy Jammed 1 0) (ring 3 0))) refl
+    (taking (time 123) (box (scanner Scanning None) (job 42 42 123 0 0) (side 1 minusOne 91) (settings 1 0) (feed Busy Jammed 1 0) (ring 3 0))) refl
     ∷ case "−1 on the glass is stored as 1" (resting (settings 1 1) (feed Loaded Jammed 1 0)) (scan (StartScan 0 minusOne 0 123))
-    (told (time 123) (box (scanner Scanning None) (job 42 42 123 0 0) (side 1 1 91) (settings 0 0) (feed Loaded Jammed 1 0) (ring 3 0))) refl
+    (taking (time 123) (box (scanner Scanning None) (job 42 42 123 0 0) (side 1 1 91) (settings 0 0) (feed Loaded Jammed 1 0) (ring 3 0))) refl
     ∷ case "SideCount 0 from the feeder: Pending, DestinationID stays" (resting (settings 0 1) (feed Loaded Jammed 1 0)) (scan (StartScan 1 0 0 123))
-    (told (time 123) (box (scanner Pending None) (job 42 42 123 0 0) (side 1 0 90) (settings 1 0) (feed Loaded Jammed 1 0) (ring 3 0))) refl
+    (taking (time 123) (box (scanner Pending None) (job 42 42 123 0 0) (side 1 0 90) (settings 1 0) (feed Loaded Jammed 1 0) (ring 3 0))) refl
     ∷ case "SideCount 0 from an Erred feeder: Pending" (resting (settings 0 0) (feed Stuck Jammed 0 1)) (scan (StartScan 1 0 1 123))
-    (told (time 123) (box (scanner Pending None) (job 42 42 123 0 0) (side 1 0 90) (settings 1 1) (feed Stuck Jammed 0 1) (ring 3 0))) refl
+    (taking (time 123) (box (scanner Pending None) (job 42 42 123 0 0) (side 1 0 90) (settings 1 1) (feed Stuck Jammed 0 1) (ring 3 0))) refl
     ∷ case "SideCount 0 from the feeder, no sheet: Pending" (resting (settings 0 0) (feed Unloaded Jammed 0 0)) (scan (StartScan 1 0 1 123))
-    (told (time 123) (box (scanner Pending None) (job 42 42 123 0 0) (side 1 0 90) (settings 1 1) (feed Unloaded Jammed 0 0) (ring 3 0))) refl
+    (taking (time 123) (box (scanner Pending None) (job 42 42 123 0 0) (side 1 0 90) (settings 1 1) (feed Unloaded Jammed 0 0) (ring 3 0))) refl
     ∷ case "SideCount 0 on the glass: Pending" (resting (settings 1 1) (feed Stuck Jammed 1 0)) (scan (StartScan 0 0 0 123))
-    (told (time 123) (box (scanner Pending None) (job 42 42 123 0 0) (side 1 0 90) (settings 0 0) (feed Stuck Jammed 1 0) (ring 3 0))) refl
+    (taking (time 123) (box (scanner Pending None) (job 42 42 123 0 0) (side 1 0 90) (settings 0 0) (feed Stuck Jammed 1 0) (ring 3 0))) refl
     ∷ case "asked 1: granted 5" (resting (settings 1 0) (feed Loaded Jammed 1 0)) (scan (StartScan 0 0 1 1))
-    (told (time 5) (box (scanner Pending None) (job 42 42 5 0 0) (side 1 0 90) (settings 0 1) (feed Loaded Jammed 1 0) (ring 3 0))) refl
+    (taking (time 5) (box (scanner Pending None) (job 42 42 5 0 0) (side 1 0 90) (settings 0 1) (feed Loaded Jammed 1 0) (ring 3 0))) refl
     ∷ case "asked 6: granted 6" (resting (settings 1 0) (feed Loaded Jammed 1 0)) (scan (StartScan 0 0 1 6))
-    (told (time 6) (box (scanner Pending None) (job 42 42 6 0 0) (side 1 0 90) (settings 0 1) (feed Loaded Jammed 1 0) (ring 3 0))) refl
+    (taking (time 6) (box (scanner Pending None) (job 42 42 6 0 0) (side 1 0 90) (settings 0 1) (feed Loaded Jammed 1 0) (ring 3 0))) refl
     ∷ case "asked 599: granted 599" (resting (settings 1 0) (feed Loaded Jammed 1 0)) (scan (StartScan 0 0 1 599))
-    (told (time 599) (box (scanner Pending None) (job 42 42 599 0 0) (side 1 0 90) (settings 0 1) (feed Loaded Jammed 1 0) (ring 3 0))) refl
+    (taking (time 599) (box (scanner Pending None) (job 42 42 599 0 0) (side 1 0 90) (settings 0 1) (feed Loaded Jammed 1 0) (ring 3 0))) refl
     ∷ case "asked 65,535: granted 600" (resting (settings 1 0) (feed Loaded Jammed 1 0)) (scan (StartScan 0 0 1 65535))
-    (told (time 600) (box (scanner Pending None) (job 42 42 600 0 0) (side 1 0 90) (settings 0 1) (feed Loaded Jammed 1 0) (ring 3 0))) refl
+    (taking (time 600) (box (scanner Pending None) (job 42 42 600 0 0) (side 1 0 90) (settings 0 1) (feed Loaded Jammed 1 0) (ring 3 0))) refl
     ∷ case "DestinationID 4,294,967,295 goes to 0"
     (at (box (scanner Idle Timeout) (job 0 41 77 0 0) (side 1 0 4294967295) (settings 1 0) (feed Loaded Jammed 1 0) (ring 3 0))) (scan (StartScan 1 7 1 123))
-    (told (time 123) (box (scanner Scanning None) (job 42 42 123 0 0) (side 1 7 0) (settings 1 1) (feed Busy Jammed 1 0) (ring 3 0))) refl
+    (taking (time 123) (box (scanner Scanning None) (job 42 42 123 0 0) (side 1 7 0) (settings 1 1) (feed Busy Jammed 1 0) (ring 3 0))) refl
     ∷ case "DestinationID 4,294,967,294 goes to 4,294,967,295"
     (at (box (scanner Idle Timeout) (job 0 41 77 0 0) (side 1 0 4294967294) (settings 1 0) (feed Loaded Jammed 1 0) (ring 3 0))) (scan (StartScan 1 7 1 123))
-    (told (time 123) (box (scanner Scanning None) (job 42 42 123 0 0) (side 1 7 4294967295) (settings 1 1) (feed Busy Jammed 1 0) (ring 3 0))) refl
+    (taking (time 123) (box (scanner Scanning None) (job 42 42 123 0 0) (side 1 7 4294967295) (settings 1 1) (feed Busy Jammed 1 0) (ring 3 0))) refl
     ∷ case "job 4,294,967,294 is followed by 4,294,967,295"
     (at (box (scanner Idle Timeout) (job 0 4294967294 77 0 0) (side 1 0 90) (settings 1 0) (feed Loaded Jammed 1 0) (ring 3 0))) (scan (StartScan 0 0 1 123))
-    (told (time 123) (box (scanner Pending None) (job 4294967295 4294967295 123 0 0) (side 1 0 90) (settings 0 1) (feed Loaded Jammed 1 0) (ring 3 0))) refl
+    (taking (time 123) (box (scanner Pending None) (job 4294967295 4294967295 123 0 0) (side 1 0 90) (settings 0 1) (feed Loaded Jammed 1 0) (ring 3 0))) refl
     ∷ case "the first job is 1" (at (box (scanner Idle Timeout) (job 0 0 77 0 0) (side 1 0 90) (settings 1 0) (feed Loaded Jammed 1 0) (ring 3 0)))
     (scan (StartScan 0 0 1 123))
-    (told (time 123) (box (scanner Pending None) (job 1 1 123 0 0) (side 1 0 90) (settings 0 1) (feed Loaded Jammed 1 0) (ring 3 0))) refl
+    (taking (time 123) (box (scanner Pending None) (job 1 1 123 0 0) (side 1 0 90) (settings 0 1) (feed Loaded Jammed 1 0) (ring 3 0))) refl
     ∷ []
 
 -- StartScan 601, 501, 711, 713
@@ -249,47 +249,47 @@ pub reads : List (Case Outcome)
 unfolding final
 reads =
     case "the name without Append" (drawing 0 8 (ring 3 4)) (scan (GetDestination 41))
-    (told (destination J41 90) (box (scanner Scanning Timeout) (job 41 41 77 13 0) (side 6 8 90) (settings 1 0) (feed Busy Jammed 1 0) (ring 3 4))) refl
+    (taking (destination J41 90) (box (scanner Scanning Timeout) (job 41 41 77 13 0) (side 6 8 90) (settings 1 0) (feed Busy Jammed 1 0) (ring 3 4))) refl
     ∷ case "the name with Append" (copying 0 (feed Loaded Jammed 1 0) (ring 3 4)) (scan (GetDestination 41))
-    (told (destination J41-006 90) (box (scanner Scanning Timeout) (job 41 41 77 13 0) (side 6 1 90) (settings 0 1) (feed Loaded Jammed 1 0) (ring 3 4))) refl
+    (taking (destination J41-006 90) (box (scanner Scanning Timeout) (job 41 41 77 13 0) (side 6 1 90) (settings 0 1) (feed Loaded Jammed 1 0) (ring 3 4))) refl
     ∷ case "ten digits of job, three of SideNumber"
     (at (box (scanner Pending Timeout) (job 1234567890 1234567890 77 13 0) (side 987 8 90) (settings 1 1) (feed Loaded Jammed 1 0) (ring 3 0)))
     (scan (GetDestination 1234567890))
-    (told (destination J1234567890-987 90)
+    (taking (destination J1234567890-987 90)
     (box (scanner Pending Timeout) (job 1234567890 1234567890 77 13 0) (side 987 8 90) (settings 1 1) (feed Loaded Jammed 1 0) (ring 3 0))) refl
     ∷ case "ten digits of job alone"
     (at (box (scanner Erred Timeout) (job 1234567890 1234567890 77 13 0) (side 987 8 90) (settings 1 0) (feed Unloaded Jammed 1 0) (ring 3 0)))
     (scan (GetDestination 1234567890))
-    (told (destination J1234567890 90)
+    (taking (destination J1234567890 90)
     (box (scanner Erred Timeout) (job 1234567890 1234567890 77 13 0) (side 987 8 90) (settings 1 0) (feed Unloaded Jammed 1 0) (ring 3 0))) refl
     ∷ case "the name of the greatest job and side"
     (at (box (scanner Finishing Timeout) (job 4294967295 4294967295 77 13 1) (side 999 8 90) (settings 1 1) (feed Loaded Jammed 1 0) (ring 3 4)))
     (scan (GetDestination 4294967295))
-    (told (destination J4294967295-999 90)
+    (taking (destination J4294967295-999 90)
     (box (scanner Finishing Timeout) (job 4294967295 4294967295 77 13 1) (side 999 8 90) (settings 1 1) (feed Loaded Jammed 1 0) (ring 3 4))) refl
     ∷ keeps "GetDestination 712" (holding (settings 1 0) (feed Loaded Jammed 1 0)) (scan (GetDestination 42)) 712 refl
     ∷ keeps "GetDestination 712 in Idle: 0" (resting (settings 1 0) (feed Loaded Jammed 1 0)) (scan (GetDestination 0)) 712 refl
     ∷ keeps "GetDestination 712 in Idle: the last number given" (resting (settings 1 0) (feed Loaded Jammed 1 0)) (scan (GetDestination 41)) 712 refl
     ∷ case "GetState in Idle" (resting (settings 1 0) (feed Loaded Jammed 1 0)) (scan GetState)
-    (told (state Idle Timeout) (box (scanner Idle Timeout) (job 0 41 77 0 0) (side 1 0 90) (settings 1 0) (feed Loaded Jammed 1 0) (ring 3 0))) refl
+    (taking (state Idle Timeout) (box (scanner Idle Timeout) (job 0 41 77 0 0) (side 1 0 90) (settings 1 0) (feed Loaded Jammed 1 0) (ring 3 0))) refl
     ∷ case "GetState in Pending" (at (box (scanner Pending None) (job 41 41 77 13 0) (side 6 8 90) (settings 1 0) (feed Loaded Jammed 1 0) (ring 3 0)))
     (scan GetState)
-    (told (state Pending None) (box (scanner Pending None) (job 41 41 77 13 0) (side 6 8 90) (settings 1 0) (feed Loaded Jammed 1 0) (ring 3 0))) refl
+    (taking (state Pending None) (box (scanner Pending None) (job 41 41 77 13 0) (side 6 8 90) (settings 1 0) (feed Loaded Jammed 1 0) (ring 3 0))) refl
     ∷ case "GetState in Scanning" (drawing 1 8 (ring 3 4)) (scan GetState)
-    (told (state Scanning Timeout) (box (scanner Scanning Timeout) (job 41 41 77 13 1) (side 6 8 90) (settings 1 0) (feed Busy Jammed 1 0) (ring 3 4))) refl
+    (taking (state Scanning Timeout) (box (scanner Scanning Timeout) (job 41 41 77 13 1) (side 6 8 90) (settings 1 0) (feed Busy Jammed 1 0) (ring 3 4))) refl
     ∷ case "GetState in Finishing" (clearing 0 (feed Loaded Jammed 1 0) (ring 3 4)) (scan GetState)
-    (told (state Finishing Timeout) (box (scanner Finishing Timeout) (job 41 41 77 13 0) (side 6 0 90) (settings 0 1) (feed Loaded Jammed 1 0) (ring 3 4)))
+    (taking (state Finishing Timeout) (box (scanner Finishing Timeout) (job 41 41 77 13 0) (side 6 0 90) (settings 0 1) (feed Loaded Jammed 1 0) (ring 3 4)))
     refl
     ∷ case "GetState in Erred" (at (box (scanner Erred Jammed) (job 41 41 77 13 0) (side 6 8 90) (settings 1 0) (feed Stuck Timeout 0 1) (ring 3 0)))
     (scan GetState)
-    (told (state Erred Jammed) (box (scanner Erred Jammed) (job 41 41 77 13 0) (side 6 8 90) (settings 1 0) (feed Stuck Timeout 0 1) (ring 3 0))) refl
+    (taking (state Erred Jammed) (box (scanner Erred Jammed) (job 41 41 77 13 0) (side 6 8 90) (settings 1 0) (feed Stuck Timeout 0 1) (ring 3 0))) refl
     ∷ case "GetSideInformation: ScanLength 0" (drawing 0 8 (ring 3 4)) (scan GetSideInformation)
-    (told (sides 6 8 0) (box (scanner Scanning Timeout) (job 41 41 77 13 0) (side 6 8 90) (settings 1 0) (feed Busy Jammed 1 0) (ring 3 4))) refl
+    (taking (sides 6 8 0) (box (scanner Scanning Timeout) (job 41 41 77 13 0) (side 6 8 90) (settings 1 0) (feed Busy Jammed 1 0) (ring 3 4))) refl
     ∷ case "GetSideInformation with −1" (drawing 1 minusOne (ring 3 4)) (scan GetSideInformation)
-    (told (sides 6 minusOne 0) (box (scanner Scanning Timeout) (job 41 41 77 13 1) (side 6 minusOne 90) (settings 1 0) (feed Busy Jammed 1 0) (ring 3 4)))
+    (taking (sides 6 minusOne 0) (box (scanner Scanning Timeout) (job 41 41 77 13 1) (side 6 minusOne 90) (settings 1 0) (feed Busy Jammed 1 0) (ring 3 4)))
     refl
     ∷ case "GetSideInformation in Idle" (resting (settings 1 0) (feed Loaded Jammed 1 0)) (scan GetSideInformation)
-    (told (sides 1 0 0) (box (scanner Idle Timeout) (job 0 41 77 0 0) (side 1 0 90) (settings 1 0) (feed Loaded Jammed 1 0) (ring 3 0))) refl
+    (taking (sides 1 0 0) (box (scanner Idle Timeout) (job 0 41 77 0 0) (side 1 0 90) (settings 1 0) (feed Loaded Jammed 1 0) (ring 3 0))) refl
     ∷ []
 
 -- ---- Fetch: k is the least of stored, most and reply length less 4; oldest byte out first, round the ring's end
@@ -462,9 +462,9 @@ byteReports =
     (took 5 (73 ∷ 74 ∷ 75 ∷ 71 ∷ 72 ∷ []) (box (scanner Scanning Timeout) (job 41 41 77 0 0) (side 6 8 90) (settings 1 0) (feed Busy Jammed 1 0) (ring 3 5)))
     refl
     ∷ case "none given: nothing changes" (drawing 0 8 (ring 3 4)) (report (Bytes []))
-    (told (stored 0) (box (scanner Scanning Timeout) (job 41 41 77 13 0) (side 6 8 90) (settings 1 0) (feed Busy Jammed 1 0) (ring 3 4))) refl
+    (taking (stored 0) (box (scanner Scanning Timeout) (job 41 41 77 13 0) (side 6 8 90) (settings 1 0) (feed Busy Jammed 1 0) (ring 3 4))) refl
     ∷ case "in Scanning accepted, the ring full" (copying 0 (feed Loaded Jammed 1 0) (ring 3 5)) (report (Bytes []))
-    (told (stored 0) (box (scanner Scanning Timeout) (job 41 41 77 13 0) (side 6 1 90) (settings 0 1) (feed Loaded Jammed 1 0) (ring 3 5))) refl
+    (taking (stored 0) (box (scanner Scanning Timeout) (job 41 41 77 13 0) (side 6 1 90) (settings 0 1) (feed Loaded Jammed 1 0) (ring 3 5))) refl
     ∷ keeps "Bytes 603: one too many, none go in" (drawing 0 8 (ring 3 4)) (report (Bytes (71 ∷ 72 ∷ []))) 603 refl
     ∷ keeps "Bytes 603: the ring full" (copying 0 (feed Loaded Jammed 1 0) (ring 3 5)) (report (Bytes (71 ∷ []))) 603 refl
     ∷ keeps "Bytes 603: six into an empty ring" (drawing 0 8 (ring 3 0)) (report (Bytes (71 ∷ 72 ∷ 73 ∷ 74 ∷ 75 ∷ 76 ∷ []))) 603 refl
@@ -726,43 +726,43 @@ modeCalls =
     ∷ keeps "SetFeederMode 501 from Busy" (drawing 0 8 (ring 3 4)) (feeder (SetFeederMode 41 0)) 501 refl
     ∷ keeps "SetFeederMode on an Erred feeder is 501" (resting (settings 1 0) (feed Stuck Jammed 0 1)) (feeder (SetFeederMode 0 0)) 501 refl
     ∷ case "feeder GetState: Unloaded" (draining 1 8 (feed Unloaded None 0 0) (ring 3 4)) (feeder GetFeederState)
-    (told (feeding Unloaded 0 None) (box (scanner Finishing Timeout) (job 41 41 77 13 1) (side 6 8 90) (settings 1 0) (feed Unloaded None 0 0) (ring 3 4)))
+    (taking (feeding Unloaded 0 None) (box (scanner Finishing Timeout) (job 41 41 77 13 1) (side 6 8 90) (settings 1 0) (feed Unloaded None 0 0) (ring 3 4)))
     refl
     ∷ case "feeder GetState: Loaded" (resting (settings 1 0) (feed Loaded Jammed 1 0)) (feeder GetFeederState)
-    (told (feeding Loaded 1 Jammed) (box (scanner Idle Timeout) (job 0 41 77 0 0) (side 1 0 90) (settings 1 0) (feed Loaded Jammed 1 0) (ring 3 0))) refl
+    (taking (feeding Loaded 1 Jammed) (box (scanner Idle Timeout) (job 0 41 77 0 0) (side 1 0 90) (settings 1 0) (feed Loaded Jammed 1 0) (ring 3 0))) refl
     ∷ case "feeder GetState: Busy" (drawing 0 8 (ring 3 4)) (feeder GetFeederState)
-    (told (feeding Busy 1 Jammed) (box (scanner Scanning Timeout) (job 41 41 77 13 0) (side 6 8 90) (settings 1 0) (feed Busy Jammed 1 0) (ring 3 4))) refl
+    (taking (feeding Busy 1 Jammed) (box (scanner Scanning Timeout) (job 41 41 77 13 0) (side 6 8 90) (settings 1 0) (feed Busy Jammed 1 0) (ring 3 4))) refl
     ∷ case "feeder GetState: Erred" (faulty (settings 1 0) (feed Stuck Timeout 0 1)) (feeder GetFeederState)
-    (told (feeding Stuck 0 Timeout) (box (scanner Erred Timeout) (job 41 41 77 13 0) (side 6 8 90) (settings 1 0) (feed Stuck Timeout 0 1) (ring 3 0))) refl
+    (taking (feeding Stuck 0 Timeout) (box (scanner Erred Timeout) (job 41 41 77 13 0) (side 6 8 90) (settings 1 0) (feed Stuck Timeout 0 1) (ring 3 0))) refl
     ∷ case "GetFeederMode: Simplex" (resting (settings 1 0) (feed Stuck Jammed 0 1)) (feeder GetFeederMode)
-    (told (mode 0) (box (scanner Idle Timeout) (job 0 41 77 0 0) (side 1 0 90) (settings 1 0) (feed Stuck Jammed 0 1) (ring 3 0))) refl
+    (taking (mode 0) (box (scanner Idle Timeout) (job 0 41 77 0 0) (side 1 0 90) (settings 1 0) (feed Stuck Jammed 0 1) (ring 3 0))) refl
     ∷ []
 
 -- ---- where a builder slips
 pub slips : List (Case Outcome)
 unfolding final
 slips =
-    after "Load's 713 is a move of the feeder" (resting (settings 1 0) (feed Loaded Jammed 0 0)) (feeder (Load 0) ∷ []) (scan (StartScan 1 7 1 123))
+    afterwards "Load's 713 is a move of the feeder" (resting (settings 1 0) (feed Loaded Jammed 0 0)) (feeder (Load 0) ∷ []) (scan (StartScan 1 7 1 123))
     (out 713 nothing (box (scanner Idle Timeout) (job 0 41 77 0 0) (side 1 0 90) (settings 1 0) (feed Unloaded Jammed 0 0) (ring 3 0)) five []) refl
-    ∷ after "StartScan's 713 is none" (resting (settings 1 0) (feed Unloaded Jammed 0 0)) (scan (StartScan 1 7 1 123) ∷ report (Tray 1) ∷ [])
+    ∷ afterwards "StartScan's 713 is none" (resting (settings 1 0) (feed Unloaded Jammed 0 0)) (scan (StartScan 1 7 1 123) ∷ report (Tray 1) ∷ [])
     (scan (StartScan 1 7 1 123))
-    (told (time 123) (box (scanner Scanning None) (job 42 42 123 0 0) (side 1 7 91) (settings 1 1) (feed Busy Jammed 1 0) (ring 3 0))) refl
-    ∷ after "the right number puts off nothing"
+    (taking (time 123) (box (scanner Scanning None) (job 42 42 123 0 0) (side 1 7 91) (settings 1 1) (feed Busy Jammed 1 0) (ring 3 0))) refl
+    ∷ afterwards "the right number puts off nothing"
     (at (box (scanner Pending Timeout) (job 41 41 77 75 0) (side 6 8 90) (settings 1 0) (feed Loaded Jammed 1 0) (ring 3 0)))
     (report Tick ∷ feeder (Load 41) ∷ scan (Fetch J41 255 nine) ∷ feeder (Eject 41 0) ∷ feeder (Reset 41) ∷ feeder (SetFeederMode 41 0) ∷ report (Tray 0) ∷ [])
     (report Tick)
     (done (box (scanner Idle Timeout) (job 0 41 77 0 0) (side 1 0 90) (settings 1 0) (feed Unloaded Jammed 0 0) (ring 0 0))) refl
-    ∷ after "nor does a stop that is asked twice"
+    ∷ afterwards "nor does a stop that is asked twice"
     (at (box (scanner Scanning Timeout) (job 41 41 77 75 0) (side 6 8 90) (settings 1 0) (feed Busy Jammed 1 0) (ring 3 4)))
     (scan (Stop 41) ∷ report Tick ∷ scan (Stop 41) ∷ []) (report Tick)
     (done (box (scanner Idle Timeout) (job 0 41 77 0 0) (side 1 0 90) (settings 1 0) (feed Stuck Timeout 1 0) (ring 0 0))) refl
-    ∷ after "no ring bytes after Abort" (drawing 0 8 (ring 3 4)) (scan (Abort 41) ∷ scan (StartScan 0 1 0 123) ∷ []) (scan (Fetch J42 255 nine))
+    ∷ afterwards "no ring bytes afterwards Abort" (drawing 0 8 (ring 3 4)) (scan (Abort 41) ∷ scan (StartScan 0 1 0 123) ∷ []) (scan (Fetch J42 255 nine))
     (sent 0 false [] (65 ∷ 66 ∷ 67 ∷ 68 ∷ 69 ∷ [])
     (box (scanner Scanning None) (job 42 42 123 0 0) (side 1 1 91) (settings 0 0) (feed Unloaded Jammed 1 0) (ring 0 0))) refl
-    ∷ after "no ring bytes after a jam" (drawing 0 8 (ring 3 4)) (report (Path 1) ∷ scan (Start 41 0 1) ∷ []) (scan (Fetch J41 255 nine))
+    ∷ afterwards "no ring bytes afterwards a jam" (drawing 0 8 (ring 3 4)) (report (Path 1) ∷ scan (Start 41 0 1) ∷ []) (scan (Fetch J41 255 nine))
     (sent 0 false [] (65 ∷ 66 ∷ 67 ∷ 68 ∷ 69 ∷ [])
     (box (scanner Scanning None) (job 41 41 77 0 0) (side 6 1 91) (settings 0 0) (feed Stuck Jammed 1 1) (ring 0 0))) refl
-    ∷ after "−1 stays −1, side after side" (drawing 0 minusOne (ring 3 0)) (report SideEnded ∷ report SideEnded ∷ []) (report SideEnded)
+    ∷ afterwards "−1 stays −1, side afterwards side" (drawing 0 minusOne (ring 3 0)) (report SideEnded ∷ report SideEnded ∷ []) (report SideEnded)
     (done (box (scanner Scanning Timeout) (job 41 41 77 0 0) (side 9 minusOne 93) (settings 1 0) (feed Busy Jammed 1 0) (ring 3 0))) refl
     ∷ []
 
@@ -770,27 +770,27 @@ slips =
 pub every604 : List (Case Outcome)
 unfolding final
 every604 =
-    keeps "StartScan 604" unsound (scan (StartScan 3 0 1 123)) 604 refl
-    ∷ keeps "Start 604" unsound (scan (Start 42 3 0)) 604 refl
-    ∷ keeps "Stop 604" unsound (scan (Stop 41)) 604 refl
-    ∷ keeps "Abort 604" unsound (scan (Abort 41)) 604 refl
-    ∷ keeps "GetDestination 604" unsound (scan (GetDestination 41)) 604 refl
-    ∷ case "Fetch 604" unsound (scan (Fetch J42 255 (61 ∷ 62 ∷ 63 ∷ [])))
+    keeps "StartScan 604" unsoundState (scan (StartScan 3 0 1 123)) 604 refl
+    ∷ keeps "Start 604" unsoundState (scan (Start 42 3 0)) 604 refl
+    ∷ keeps "Stop 604" unsoundState (scan (Stop 41)) 604 refl
+    ∷ keeps "Abort 604" unsoundState (scan (Abort 41)) 604 refl
+    ∷ keeps "GetDestination 604" unsoundState (scan (GetDestination 41)) 604 refl
+    ∷ case "Fetch 604" unsoundState (scan (Fetch J42 255 (61 ∷ 62 ∷ 63 ∷ [])))
     (out 604 nothing (box (scanner Idle Timeout) (job 0 41 77 13 0) (side 1 0 90) (settings 1 0) (feed Loaded Jammed 1 0) (ring 3 0)) five
     (61 ∷ 62 ∷ 63 ∷ [])) refl
-    ∷ keeps "GetState 604" unsound (scan GetState) 604 refl
-    ∷ keeps "GetSideInformation 604" unsound (scan GetSideInformation) 604 refl
-    ∷ keeps "Load 604" unsound (feeder (Load 41)) 604 refl
-    ∷ keeps "Eject 604" unsound (feeder (Eject 42 3)) 604 refl
-    ∷ keeps "Reset 604" unsound (feeder (Reset 41)) 604 refl
-    ∷ keeps "SetFeederMode 604" unsound (feeder (SetFeederMode 41 1)) 604 refl
-    ∷ keeps "feeder GetState 604" unsound (feeder GetFeederState) 604 refl
-    ∷ keeps "GetFeederMode 604" unsound (feeder GetFeederMode) 604 refl
-    ∷ keeps "Bytes 604" unsound (report (Bytes (71 ∷ []))) 604 refl
-    ∷ keeps "Side ended 604" unsound (report SideEnded) 604 refl
-    ∷ keeps "Tray 604" unsound (report (Tray 2)) 604 refl
-    ∷ keeps "Path 604" unsound (report (Path 2)) 604 refl
-    ∷ keeps "Tick 604" unsound (report Tick) 604 refl
+    ∷ keeps "GetState 604" unsoundState (scan GetState) 604 refl
+    ∷ keeps "GetSideInformation 604" unsoundState (scan GetSideInformation) 604 refl
+    ∷ keeps "Load 604" unsoundState (feeder (Load 41)) 604 refl
+    ∷ keeps "Eject 604" unsoundState (feeder (Eject 42 3)) 604 refl
+    ∷ keeps "Reset 604" unsoundState (feeder (Reset 41)) 604 refl
+    ∷ keeps "SetFeederMode 604" unsoundState (feeder (SetFeederMode 41 1)) 604 refl
+    ∷ keeps "feeder GetState 604" unsoundState (feeder GetFeederState) 604 refl
+    ∷ keeps "GetFeederMode 604" unsoundState (feeder GetFeederMode) 604 refl
+    ∷ keeps "Bytes 604" unsoundState (report (Bytes (71 ∷ []))) 604 refl
+    ∷ keeps "Side ended 604" unsoundState (report SideEnded) 604 refl
+    ∷ keeps "Tray 604" unsoundState (report (Tray 2)) 604 refl
+    ∷ keeps "Path 604" unsoundState (report (Path 2)) 604 refl
+    ∷ keeps "Tick 604" unsoundState (report Tick) 604 refl
     ∷ []
 
 -- every case of a call
@@ -800,24 +800,24 @@ table =
     ++ sideEnds ++ sensorReports ++ tickReports ++ loadCalls ++ ejectCalls ++ resetCalls ++ modeCalls ++ slips ++ every604
 
 -- ---- reason numbers, in order of test: every call's tests in a box where as many hold as can
-pub tests : List (Case (List Line))
+pub tests : List (Case (List Guard))
 unfolding final
 tests =
-    that "StartScan: 601, 501, 711, 713" (lines (scan (StartScan 1 1000 1 123)) (holding (settings 0 1) (feed Stuck Jammed 0 1)))
+    that "StartScan: 601, 501, 711, 713" (allGuards (scan (StartScan 1 1000 1 123)) (holding (settings 0 1) (feed Stuck Jammed 0 1)))
     (refuse n604 false ∷ refuse n601 true ∷ refuse n501 true ∷ refuse n711 true ∷ refuse n713 false ∷ []) refl
-    ∷ that "StartScan: 713 where 711 is not" (lines (scan (StartScan 1 1000 1 123)) (holding (settings 0 1) (feed Unloaded Jammed 0 0)))
+    ∷ that "StartScan: 713 where 711 is not" (allGuards (scan (StartScan 1 1000 1 123)) (holding (settings 0 1) (feed Unloaded Jammed 0 0)))
     (refuse n604 false ∷ refuse n601 true ∷ refuse n501 true ∷ refuse n711 false ∷ refuse n713 true ∷ []) refl
-    ∷ that "Start: 601, 712, 501, 711, 713" (lines (scan (Start 42 1 1000)) (copying 0 (feed Stuck Jammed 0 1) (ring 3 4)))
+    ∷ that "Start: 601, 712, 501, 711, 713" (allGuards (scan (Start 42 1 1000)) (copying 0 (feed Stuck Jammed 0 1) (ring 3 4)))
     (refuse n604 false ∷ refuse n601 true ∷ refuse n712 true ∷ refuse n501 true ∷ refuse n711 true ∷ refuse n713 false ∷ []) refl
-    ∷ that "Start: 713 where 711 is not" (lines (scan (Start 42 1 1000)) (resting (settings 0 1) (feed Unloaded Jammed 0 0)))
+    ∷ that "Start: 713 where 711 is not" (allGuards (scan (Start 42 1 1000)) (resting (settings 0 1) (feed Unloaded Jammed 0 0)))
     (refuse n604 false ∷ refuse n601 true ∷ refuse n712 true ∷ refuse n501 true ∷ refuse n711 false ∷ refuse n713 true ∷ []) refl
-    ∷ that "Stop: 712" (lines (scan (Stop 42)) unsound) (refuse n604 true ∷ refuse n712 true ∷ []) refl
-    ∷ that "Abort: 712" (lines (scan (Abort 42)) unsound) (refuse n604 true ∷ refuse n712 true ∷ []) refl
-    ∷ that "GetDestination: 712" (lines (scan (GetDestination 42)) unsound) (refuse n604 true ∷ refuse n712 true ∷ []) refl
-    ∷ that "Fetch: 404, 603" (lines (scan (Fetch J42 255 [])) unsound) (refuse n604 true ∷ refuse n404 true ∷ refuse n603 true ∷ []) refl
-    ∷ that "GetState: none" (lines (scan GetState) unsound) (refuse n604 true ∷ []) refl
-    ∷ that "GetSideInformation: none" (lines (scan GetSideInformation) unsound) (refuse n604 true ∷ []) refl
-    ∷ that "Load: 712, 501, 711, 713" (lines (feeder (Load 42)) (drawingLast 0 8 (ring 3 4)))
+    ∷ that "Stop: 712" (allGuards (scan (Stop 42)) unsoundState) (refuse n604 true ∷ refuse n712 true ∷ []) refl
+    ∷ that "Abort: 712" (allGuards (scan (Abort 42)) unsoundState) (refuse n604 true ∷ refuse n712 true ∷ []) refl
+    ∷ that "GetDestination: 712" (allGuards (scan (GetDestination 42)) unsoundState) (refuse n604 true ∷ refuse n712 true ∷ []) refl
+    ∷ that "Fetch: 404, 603" (allGuards (scan (Fetch J42 255 [])) unsoundState) (refuse n604 true ∷ refuse n404 true ∷ refuse n603 true ∷ []) refl
+    ∷ that "GetState: none" (allGuards (scan GetState) unsoundState) (refuse n604 true ∷ []) refl
+    ∷ that "GetSideInformation: none" (allGuards (scan GetSideInformation) unsoundState) (refuse n604 true ∷ []) refl
+    ∷ that "Load: 712, 501, 711, 713" (allGuards (feeder (Load 42)) (drawingLast 0 8 (ring 3 4)))
     (refuse n604 false
     ∷ refuse n712 true
     ∷ refuse n501 true
@@ -826,21 +826,21 @@ tests =
     (box (scanner Scanning Timeout) (job 41 41 77 13 0) (side 6 8 90) (settings 1 0) (feed Unloaded Jammed 0 0) (ring 3 4))
     ∷ [])
     refl
-    ∷ that "Eject: 601, 712, 501, 711" (lines (feeder (Eject 42 3)) (drawing 0 8 (ring 3 4)))
+    ∷ that "Eject: 601, 712, 501, 711" (allGuards (feeder (Eject 42 3)) (drawing 0 8 (ring 3 4)))
     (refuse n604 false ∷ refuse n601 true ∷ refuse n712 true ∷ refuse n501 true ∷ refuse n711 false ∷ []) refl
-    ∷ that "Eject: 711 where 501 is not" (lines (feeder (Eject 42 3)) (faulty (settings 1 0) (feed Stuck Jammed 0 1)))
+    ∷ that "Eject: 711 where 501 is not" (allGuards (feeder (Eject 42 3)) (faulty (settings 1 0) (feed Stuck Jammed 0 1)))
     (refuse n604 false ∷ refuse n601 true ∷ refuse n712 true ∷ refuse n501 false ∷ refuse n711 true ∷ []) refl
-    ∷ that "Reset: 712, 501" (lines (feeder (Reset 42)) (drawing 0 8 (ring 3 4))) (refuse n604 false ∷ refuse n712 true ∷ refuse n501 true ∷ []) refl
-    ∷ that "SetFeederMode: 601, 712, 501" (lines (feeder (SetFeederMode 42 1)) (drawing 0 8 (ring 3 4)))
+    ∷ that "Reset: 712, 501" (allGuards (feeder (Reset 42)) (drawing 0 8 (ring 3 4))) (refuse n604 false ∷ refuse n712 true ∷ refuse n501 true ∷ []) refl
+    ∷ that "SetFeederMode: 601, 712, 501" (allGuards (feeder (SetFeederMode 42 1)) (drawing 0 8 (ring 3 4)))
     (refuse n604 false ∷ refuse n601 true ∷ refuse n712 true ∷ refuse n501 true ∷ []) refl
-    ∷ that "feeder GetState: none" (lines (feeder GetFeederState) unsound) (refuse n604 true ∷ []) refl
-    ∷ that "GetFeederMode: none" (lines (feeder GetFeederMode) unsound) (refuse n604 true ∷ []) refl
-    ∷ that "Bytes: 501, 603" (lines (report (Bytes (71 ∷ 72 ∷ []))) (clearing 0 (feed Loaded Jammed 1 0) (ring 3 4)))
+    ∷ that "feeder GetState: none" (allGuards (feeder GetFeederState) unsoundState) (refuse n604 true ∷ []) refl
+    ∷ that "GetFeederMode: none" (allGuards (feeder GetFeederMode) unsoundState) (refuse n604 true ∷ []) refl
+    ∷ that "Bytes: 501, 603" (allGuards (report (Bytes (71 ∷ 72 ∷ []))) (clearing 0 (feed Loaded Jammed 1 0) (ring 3 4)))
     (refuse n604 false ∷ refuse n501 true ∷ refuse n603 true ∷ []) refl
-    ∷ that "Side ended: 501" (lines (report SideEnded) unsound) (refuse n604 true ∷ refuse n501 true ∷ []) refl
-    ∷ that "Tray: 601" (lines (report (Tray 2)) unsound) (refuse n604 true ∷ refuse n601 true ∷ []) refl
-    ∷ that "Path: 601" (lines (report (Path 2)) unsound) (refuse n604 true ∷ refuse n601 true ∷ []) refl
-    ∷ that "Tick: none" (lines (report Tick) unsound) (refuse n604 true ∷ []) refl
+    ∷ that "Side ended: 501" (allGuards (report SideEnded) unsoundState) (refuse n604 true ∷ refuse n501 true ∷ []) refl
+    ∷ that "Tray: 601" (allGuards (report (Tray 2)) unsoundState) (refuse n604 true ∷ refuse n601 true ∷ []) refl
+    ∷ that "Path: 601" (allGuards (report (Path 2)) unsoundState) (refuse n604 true ∷ refuse n601 true ∷ []) refl
+    ∷ that "Tick: none" (allGuards (report Tick) unsoundState) (refuse n604 true ∷ []) refl
     ∷ []
 
 -- the numbers named for each call
@@ -976,7 +976,7 @@ bearers =
 abbrev pub elsewhere : Outcome
 elsewhere = out 0 (mode 81) (odd Finishing Busy) (82 ∷ 83 ∷ []) (84 ∷ [])
 
-abbrev pub walked : List Line → Outcome
+abbrev pub walked : List Guard → Outcome
 walked ls = answer ls (resting (settings 1 0) (feed Loaded Jammed 1 0)) (scan (Fetch J41 255 nine)) elsewhere
 
 pub walks : List (Case Outcome)
@@ -995,41 +995,41 @@ walks =
     ∷ []
 
 -- ---- the feeder's rule, entry by entry: state, input, tray and path sensor; the next state and the number
-abbrev pub entry : Feed → ℕ → Fed
-entry x n = record { next = x; number = n }
+abbrev pub ruled : Feed → ℕ → Fed
+ruled x n = record { next = x; number = n }
 
 pub feederRule : List (Case Fed)
 unfolding final
 feederRule =
-    that "Load from Unloaded" (fed 0 Unloaded Input.Load 1 0) (entry Loaded 0) refl
-    ∷ that "Load from Loaded" (fed 0 Loaded Input.Load 1 0) (entry Loaded 0) refl
-    ∷ that "Load from Unloaded, tray empty" (fed 0 Unloaded Input.Load 0 0) (entry Unloaded 713) refl
-    ∷ that "Load from Loaded, tray empty" (fed 0 Loaded Input.Load 0 0) (entry Unloaded 713) refl
-    ∷ that "Load, Busy" (fed 0 Busy Input.Load 1 0) (entry Busy 501) refl
-    ∷ that "Load, Busy, tray empty" (fed 0 Busy Input.Load 0 0) (entry Busy 501) refl
-    ∷ that "Load, Erred" (fed 0 Stuck Input.Load 1 0) (entry Stuck 711) refl
-    ∷ that "Load, Erred, tray empty" (fed 0 Stuck Input.Load 0 1) (entry Stuck 711) refl
-    ∷ that "Eject one from Unloaded" (fed 0 Unloaded Input.EjectOne 1 0) (entry Unloaded 0) refl
-    ∷ that "Eject one from Loaded" (fed 0 Loaded Input.EjectOne 1 0) (entry Unloaded 0) refl
-    ∷ that "Eject one, Busy" (fed 0 Busy Input.EjectOne 1 0) (entry Busy 501) refl
-    ∷ that "Eject one, Erred" (fed 0 Stuck Input.EjectOne 1 0) (entry Stuck 711) refl
-    ∷ that "Eject all from Unloaded" (fed 0 Unloaded Input.EjectAll 1 0) (entry Unloaded 0) refl
-    ∷ that "Eject all from Loaded" (fed 0 Loaded Input.EjectAll 1 0) (entry Unloaded 0) refl
-    ∷ that "Eject all, Busy" (fed 0 Busy Input.EjectAll 1 0) (entry Busy 501) refl
-    ∷ that "Eject all, Erred" (fed 0 Stuck Input.EjectAll 1 0) (entry Stuck 711) refl
-    ∷ that "Reset in Unloaded" (fed 0 Unloaded Input.Reset 1 0) (entry Unloaded 0) refl
-    ∷ that "Reset in Loaded" (fed 0 Loaded Input.Reset 1 0) (entry Loaded 0) refl
-    ∷ that "Reset, Busy" (fed 0 Busy Input.Reset 1 0) (entry Busy 501) refl
-    ∷ that "Reset in Erred, path 0" (fed 0 Stuck Input.Reset 1 0) (entry Unloaded 0) refl
-    ∷ that "Reset in Erred, path 1" (fed 0 Stuck Input.Reset 0 1) (entry Stuck 0) refl
-    ∷ that "path 1 in Unloaded" (fed 0 Unloaded Input.Jam 1 0) (entry Stuck 0) refl
-    ∷ that "path 1 in Loaded" (fed 0 Loaded Input.Jam 1 0) (entry Stuck 0) refl
-    ∷ that "path 1 in Busy" (fed 0 Busy Input.Jam 1 0) (entry Stuck 0) refl
-    ∷ that "path 1 in Erred" (fed 0 Stuck Input.Jam 1 0) (entry Stuck 0) refl
-    ∷ that "side ended in Unloaded" (fed 0 Unloaded Input.SideEnd 1 0) (entry Unloaded 0) refl
-    ∷ that "side ended in Loaded" (fed 0 Loaded Input.SideEnd 1 0) (entry Loaded 0) refl
-    ∷ that "side ended in Busy" (fed 0 Busy Input.SideEnd 1 0) (entry Unloaded 0) refl
-    ∷ that "side ended in Erred" (fed 0 Stuck Input.SideEnd 1 0) (entry Stuck 0) refl
+    that "Load from Unloaded" (fed 0 Unloaded Input.Load 1 0) (ruled Loaded 0) refl
+    ∷ that "Load from Loaded" (fed 0 Loaded Input.Load 1 0) (ruled Loaded 0) refl
+    ∷ that "Load from Unloaded, tray empty" (fed 0 Unloaded Input.Load 0 0) (ruled Unloaded 713) refl
+    ∷ that "Load from Loaded, tray empty" (fed 0 Loaded Input.Load 0 0) (ruled Unloaded 713) refl
+    ∷ that "Load, Busy" (fed 0 Busy Input.Load 1 0) (ruled Busy 501) refl
+    ∷ that "Load, Busy, tray empty" (fed 0 Busy Input.Load 0 0) (ruled Busy 501) refl
+    ∷ that "Load, Erred" (fed 0 Stuck Input.Load 1 0) (ruled Stuck 711) refl
+    ∷ that "Load, Erred, tray empty" (fed 0 Stuck Input.Load 0 1) (ruled Stuck 711) refl
+    ∷ that "Eject one from Unloaded" (fed 0 Unloaded Input.EjectOne 1 0) (ruled Unloaded 0) refl
+    ∷ that "Eject one from Loaded" (fed 0 Loaded Input.EjectOne 1 0) (ruled Unloaded 0) refl
+    ∷ that "Eject one, Busy" (fed 0 Busy Input.EjectOne 1 0) (ruled Busy 501) refl
+    ∷ that "Eject one, Erred" (fed 0 Stuck Input.EjectOne 1 0) (ruled Stuck 711) refl
+    ∷ that "Eject all from Unloaded" (fed 0 Unloaded Input.EjectAll 1 0) (ruled Unloaded 0) refl
+    ∷ that "Eject all from Loaded" (fed 0 Loaded Input.EjectAll 1 0) (ruled Unloaded 0) refl
+    ∷ that "Eject all, Busy" (fed 0 Busy Input.EjectAll 1 0) (ruled Busy 501) refl
+    ∷ that "Eject all, Erred" (fed 0 Stuck Input.EjectAll 1 0) (ruled Stuck 711) refl
+    ∷ that "Reset in Unloaded" (fed 0 Unloaded Input.Reset 1 0) (ruled Unloaded 0) refl
+    ∷ that "Reset in Loaded" (fed 0 Loaded Input.Reset 1 0) (ruled Loaded 0) refl
+    ∷ that "Reset, Busy" (fed 0 Busy Input.Reset 1 0) (ruled Busy 501) refl
+    ∷ that "Reset in Erred, path 0" (fed 0 Stuck Input.Reset 1 0) (ruled Unloaded 0) refl
+    ∷ that "Reset in Erred, path 1" (fed 0 Stuck Input.Reset 0 1) (ruled Stuck 0) refl
+    ∷ that "path 1 in Unloaded" (fed 0 Unloaded Input.Jam 1 0) (ruled Stuck 0) refl
+    ∷ that "path 1 in Loaded" (fed 0 Loaded Input.Jam 1 0) (ruled Stuck 0) refl
+    ∷ that "path 1 in Busy" (fed 0 Busy Input.Jam 1 0) (ruled Stuck 0) refl
+    ∷ that "path 1 in Erred" (fed 0 Stuck Input.Jam 1 0) (ruled Stuck 0) refl
+    ∷ that "side ended in Unloaded" (fed 0 Unloaded Input.SideEnd 1 0) (ruled Unloaded 0) refl
+    ∷ that "side ended in Loaded" (fed 0 Loaded Input.SideEnd 1 0) (ruled Loaded 0) refl
+    ∷ that "side ended in Busy" (fed 0 Busy Input.SideEnd 1 0) (ruled Unloaded 0) refl
+    ∷ that "side ended in Erred" (fed 0 Stuck Input.SideEnd 1 0) (ruled Stuck 0) refl
     ∷ []
 
 pub feederMoves : List (Case Feeder)
@@ -1125,10 +1125,10 @@ worked =
 pub stories : List (Case (List Outcome))
 unfolding final
 stories =
-    that "two jobs" (run (start five) (map callOf twoJobs) .outcomes) (map outcomeOf twoJobs) refl
-    ∷ that "the worked example" (run (start (0 ∷ 0 ∷ zeros)) (map callOf worked) .outcomes) (map outcomeOf worked) refl
+    that "two jobs" (run (start five) (map turnCall twoJobs) .outcomes) (map outcomeOf twoJobs) refl
+    ∷ that "the worked example" (run (start (0 ∷ 0 ∷ zeros)) (map turnCall worked) .outcomes) (map outcomeOf worked) refl
     ∷ []
 
-pub worked-holds : run (start (0 ∷ 0 ∷ zeros)) (map callOf worked) .outcomes ≡ map outcomeOf worked
+pub worked-holds : run (start (0 ∷ 0 ∷ zeros)) (map turnCall worked) .outcomes ≡ map outcomeOf worked
 unfolding final
 worked-holds = refl

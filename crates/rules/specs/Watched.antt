@@ -13,7 +13,7 @@ use Rattle.rules.specs.Calls.{GetFeederState, GetFeederMode, Bytes, Side
 use Rattle.rules.specs.Calls.{time, destination, picture, state, sides, feeding, mode, stored, Outcome}
 use Rattle.rules.specs.Watch.{Event, countIn, bytesIn, timeIn, seconds, timeAnswered, ordinal, Tagged, byteOf, bytesAccepted, waiting, World, after, live}
 use Rattle.rules.specs.Watch.{lived, told as toldTo, begins, stopAsked, holder, dueSecond}
-use Rattle.rules.specs.Cases.{Case, that, final, ticks, at, resting, holding, drawing, copying, draining, faulty, out, done, told, box, scanner, job}
+use Rattle.rules.specs.Cases.{Case, that, final, tickings, at, resting, holding, drawing, copying, draining, faulty, out, done, taking, box, scanner, job}
 use Rattle.rules.specs.Cases.{side, settings, feed, ring, five, nine, J41, J42}
 
 -- a box that is watched from now on, over these calls
@@ -21,84 +21,84 @@ abbrev pub watched : State → List Call → World
 watched s cs = live (record { now = s; past = [] }) cs
 
 -- two Ticks and a call: the watcher's seconds, and the box's quiet
-abbrev pub heardIn : World → ℕ × ℕ
-heardIn w = (seconds (w .past), w .now .box .job .quiet)
+abbrev pub countsIn : World → ℕ × ℕ
+countsIn w = (seconds (w .past), w .now .box .job .quiet)
 
-abbrev pub heard : (says : String) (s : State) (c : Call) (due : ℕ × ℕ) → heardIn (watched s (ticks 2 ++ c ∷ [])) ≡ due → Case (ℕ × ℕ)
-heard says s c due e = that says (heardIn (watched s (ticks 2 ++ c ∷ []))) due e
+abbrev pub quietCounts : (says : String) (s : State) (c : Call) (due : ℕ × ℕ) → countsIn (watched s (tickings 2 ++ c ∷ [])) ≡ due → Case (ℕ × ℕ)
+quietCounts says s c due e = that says (countsIn (watched s (tickings 2 ++ c ∷ []))) due e
 
 -- ---- signs of life: the seconds are 0, and so is quiet
 pub signs : List (Case (ℕ × ℕ))
 unfolding final live after
 signs =
-    heard "accepted StartScan" (resting (settings 1 0) (feed Loaded Jammed 1 0)) (scan (StartScan 1 7 1 123)) (0, 0) refl
-    ∷ heard "accepted StartScan, SideCount 0" (resting (settings 1 0) (feed Loaded Jammed 1 0)) (scan (StartScan 0 0 1 123)) (0, 0) refl
-    ∷ heard "accepted Start in Pending" (holding (settings 1 0) (feed Loaded Jammed 1 0)) (scan (Start 41 1 7)) (0, 0) refl
-    ∷ heard "accepted Start in Erred, SideCount 0" (faulty (settings 1 0) (feed Stuck Jammed 1 0)) (scan (Start 41 1 0)) (0, 0) refl
-    ∷ heard "accepted Bytes of 1" (drawing 0 8 (ring 3 4)) (report (Bytes (71 ∷ []))) (0, 0) refl
-    ∷ heard "accepted Bytes of 2 on the glass" (copying 0 (feed Loaded Jammed 1 0) (ring 3 3)) (report (Bytes (71 ∷ 72 ∷ []))) (0, 0) refl
-    ∷ heard "accepted Side ended" (drawing 0 8 (ring 3 4)) (report SideEnded) (0, 0) refl
-    ∷ heard "accepted Side ended, the ring empty" (copying 0 (feed Loaded Jammed 1 0) (ring 3 0)) (report SideEnded) (0, 0) refl
-    ∷ heard "a fetch with k of 1 in Scanning" (drawing 0 8 (ring 3 4)) (scan (Fetch J41 1 nine)) (0, 0) refl
-    ∷ heard "a fetch with k of 3 in Finishing" (draining 0 8 (feed Loaded Jammed 1 0) (ring 3 4)) (scan (Fetch J41 3 nine)) (0, 0) refl
-    ∷ heard "the last fetch" (draining 0 8 (feed Loaded Jammed 1 0) (ring 3 4)) (scan (Fetch J41 255 nine)) (0, 0) refl
-    ∷ heard "a Path report that turns Scanning into Erred" (drawing 0 8 (ring 3 4)) (report (Path 1)) (0, 0) refl
+    quietCounts "accepted StartScan" (resting (settings 1 0) (feed Loaded Jammed 1 0)) (scan (StartScan 1 7 1 123)) (0, 0) refl
+    ∷ quietCounts "accepted StartScan, SideCount 0" (resting (settings 1 0) (feed Loaded Jammed 1 0)) (scan (StartScan 0 0 1 123)) (0, 0) refl
+    ∷ quietCounts "accepted Start in Pending" (holding (settings 1 0) (feed Loaded Jammed 1 0)) (scan (Start 41 1 7)) (0, 0) refl
+    ∷ quietCounts "accepted Start in Erred, SideCount 0" (faulty (settings 1 0) (feed Stuck Jammed 1 0)) (scan (Start 41 1 0)) (0, 0) refl
+    ∷ quietCounts "accepted Bytes of 1" (drawing 0 8 (ring 3 4)) (report (Bytes (71 ∷ []))) (0, 0) refl
+    ∷ quietCounts "accepted Bytes of 2 on the glass" (copying 0 (feed Loaded Jammed 1 0) (ring 3 3)) (report (Bytes (71 ∷ 72 ∷ []))) (0, 0) refl
+    ∷ quietCounts "accepted Side ended" (drawing 0 8 (ring 3 4)) (report SideEnded) (0, 0) refl
+    ∷ quietCounts "accepted Side ended, the ring empty" (copying 0 (feed Loaded Jammed 1 0) (ring 3 0)) (report SideEnded) (0, 0) refl
+    ∷ quietCounts "a fetch with k of 1 in Scanning" (drawing 0 8 (ring 3 4)) (scan (Fetch J41 1 nine)) (0, 0) refl
+    ∷ quietCounts "a fetch with k of 3 in Finishing" (draining 0 8 (feed Loaded Jammed 1 0) (ring 3 4)) (scan (Fetch J41 3 nine)) (0, 0) refl
+    ∷ quietCounts "the last fetch" (draining 0 8 (feed Loaded Jammed 1 0) (ring 3 4)) (scan (Fetch J41 255 nine)) (0, 0) refl
+    ∷ quietCounts "a Path report that turns Scanning into Erred" (drawing 0 8 (ring 3 4)) (report (Path 1)) (0, 0) refl
     ∷ []
 
 -- nothing else does: two Ticks are counted on, and quiet is 13 and 2, or 0 where no job is held
 pub silences : List (Case (ℕ × ℕ))
 unfolding final live after
 silences =
-    heard "Stop in Scanning" (drawing 0 8 (ring 3 4)) (scan (Stop 41)) (2, 15) refl
-    ∷ heard "Stop in Finishing" (draining 0 8 (feed Loaded Jammed 1 0) (ring 3 4)) (scan (Stop 41)) (2, 15) refl
-    ∷ heard "Stop in Pending" (holding (settings 1 0) (feed Loaded Jammed 1 0)) (scan (Stop 41)) (2, 0) refl
-    ∷ heard "Stop in Erred" (faulty (settings 1 0) (feed Stuck Jammed 1 0)) (scan (Stop 41)) (2, 0) refl
-    ∷ heard "Stop refused" (drawing 0 8 (ring 3 4)) (scan (Stop 42)) (2, 15) refl
-    ∷ heard "Abort" (drawing 0 8 (ring 3 4)) (scan (Abort 41)) (2, 0) refl
-    ∷ heard "Abort refused" (drawing 0 8 (ring 3 4)) (scan (Abort 42)) (2, 15) refl
-    ∷ heard "GetDestination" (drawing 0 8 (ring 3 4)) (scan (GetDestination 41)) (2, 15) refl
-    ∷ heard "GetDestination refused" (drawing 0 8 (ring 3 4)) (scan (GetDestination 42)) (2, 15) refl
-    ∷ heard "GetState" (drawing 0 8 (ring 3 4)) (scan GetState) (2, 15) refl
-    ∷ heard "GetSideInformation" (drawing 0 8 (ring 3 4)) (scan GetSideInformation) (2, 15) refl
-    ∷ heard "an empty fetch in Pending" (holding (settings 1 0) (feed Loaded Jammed 1 0)) (scan (Fetch J41 255 nine)) (2, 15) refl
-    ∷ heard "an empty fetch in Scanning" (drawing 0 8 (ring 3 4)) (scan (Fetch J41 0 nine)) (2, 15) refl
-    ∷ heard "an empty fetch in Finishing, a reply of 4 bytes"
+    quietCounts "Stop in Scanning" (drawing 0 8 (ring 3 4)) (scan (Stop 41)) (2, 15) refl
+    ∷ quietCounts "Stop in Finishing" (draining 0 8 (feed Loaded Jammed 1 0) (ring 3 4)) (scan (Stop 41)) (2, 15) refl
+    ∷ quietCounts "Stop in Pending" (holding (settings 1 0) (feed Loaded Jammed 1 0)) (scan (Stop 41)) (2, 0) refl
+    ∷ quietCounts "Stop in Erred" (faulty (settings 1 0) (feed Stuck Jammed 1 0)) (scan (Stop 41)) (2, 0) refl
+    ∷ quietCounts "Stop refused" (drawing 0 8 (ring 3 4)) (scan (Stop 42)) (2, 15) refl
+    ∷ quietCounts "Abort" (drawing 0 8 (ring 3 4)) (scan (Abort 41)) (2, 0) refl
+    ∷ quietCounts "Abort refused" (drawing 0 8 (ring 3 4)) (scan (Abort 42)) (2, 15) refl
+    ∷ quietCounts "GetDestination" (drawing 0 8 (ring 3 4)) (scan (GetDestination 41)) (2, 15) refl
+    ∷ quietCounts "GetDestination refused" (drawing 0 8 (ring 3 4)) (scan (GetDestination 42)) (2, 15) refl
+    ∷ quietCounts "GetState" (drawing 0 8 (ring 3 4)) (scan GetState) (2, 15) refl
+    ∷ quietCounts "GetSideInformation" (drawing 0 8 (ring 3 4)) (scan GetSideInformation) (2, 15) refl
+    ∷ quietCounts "an empty fetch in Pending" (holding (settings 1 0) (feed Loaded Jammed 1 0)) (scan (Fetch J41 255 nine)) (2, 15) refl
+    ∷ quietCounts "an empty fetch in Scanning" (drawing 0 8 (ring 3 4)) (scan (Fetch J41 0 nine)) (2, 15) refl
+    ∷ quietCounts "an empty fetch in Finishing, a reply of 4 bytes"
     (draining 0 8 (feed Loaded Jammed 1 0) (ring 3 4)) (scan (Fetch J41 255 (61 ∷ 62 ∷ 63 ∷ 64 ∷ []))) (2, 15) refl
-    ∷ heard "Fetch refused, 404" (drawing 0 8 (ring 3 4)) (scan (Fetch J42 255 nine)) (2, 15) refl
-    ∷ heard "Fetch refused, 603" (drawing 0 8 (ring 3 4)) (scan (Fetch J41 255 (61 ∷ 62 ∷ 63 ∷ []))) (2, 15) refl
-    ∷ heard "StartScan refused, 501" (holding (settings 1 0) (feed Loaded Jammed 1 0)) (scan (StartScan 1 7 1 123)) (2, 15) refl
-    ∷ heard "StartScan refused, 601" (holding (settings 1 0) (feed Loaded Jammed 1 0)) (scan (StartScan 3 7 1 123)) (2, 15) refl
-    ∷ heard "StartScan refused, 713" (resting (settings 1 0) (feed Unloaded Jammed 0 0)) (scan (StartScan 1 7 1 123)) (2, 0) refl
-    ∷ heard "Start refused, 712" (holding (settings 1 0) (feed Loaded Jammed 1 0)) (scan (Start 42 1 7)) (2, 15) refl
-    ∷ heard "Start refused, 501" (drawing 0 8 (ring 3 4)) (scan (Start 41 1 7)) (2, 15) refl
-    ∷ heard "Start refused, 711" (faulty (settings 1 0) (feed Stuck Jammed 1 0)) (scan (Start 41 1 7)) (2, 15) refl
-    ∷ heard "Load" (holding (settings 1 0) (feed Loaded Jammed 1 0)) (feeder (Load 41)) (2, 15) refl
-    ∷ heard "Load refused, 713" (holding (settings 1 0) (feed Loaded Jammed 0 0)) (feeder (Load 41)) (2, 15) refl
-    ∷ heard "Load refused, 501" (drawing 0 8 (ring 3 4)) (feeder (Load 41)) (2, 15) refl
-    ∷ heard "Eject" (holding (settings 1 0) (feed Loaded Jammed 1 0)) (feeder (Eject 41 1)) (2, 15) refl
-    ∷ heard "Reset" (faulty (settings 1 0) (feed Stuck Jammed 1 0)) (feeder (Reset 41)) (2, 15) refl
-    ∷ heard "SetFeederMode" (holding (settings 1 0) (feed Unloaded Jammed 1 0)) (feeder (SetFeederMode 41 0)) (2, 15) refl
-    ∷ heard "feeder GetState" (drawing 0 8 (ring 3 4)) (feeder GetFeederState) (2, 15) refl
-    ∷ heard "GetFeederMode" (drawing 0 8 (ring 3 4)) (feeder GetFeederMode) (2, 15) refl
-    ∷ heard "empty Bytes" (drawing 0 8 (ring 3 4)) (report (Bytes [])) (2, 15) refl
-    ∷ heard "Bytes refused, 501" (holding (settings 1 0) (feed Loaded Jammed 1 0)) (report (Bytes (71 ∷ []))) (2, 15) refl
-    ∷ heard "Bytes refused, 603" (drawing 0 8 (ring 3 4)) (report (Bytes (71 ∷ 72 ∷ []))) (2, 15) refl
-    ∷ heard "Side ended refused, in Pending" (holding (settings 1 0) (feed Loaded Jammed 1 0)) (report SideEnded) (2, 15) refl
-    ∷ heard "Side ended refused, in Finishing" (draining 0 8 (feed Loaded Jammed 1 0) (ring 3 4)) (report SideEnded) (2, 15) refl
-    ∷ heard "Tray 0" (drawing 0 8 (ring 3 4)) (report (Tray 0)) (2, 15) refl
-    ∷ heard "Tray refused" (drawing 0 8 (ring 3 4)) (report (Tray 2)) (2, 15) refl
-    ∷ heard "Path 0 in Scanning" (drawing 0 8 (ring 3 4)) (report (Path 0)) (2, 15) refl
-    ∷ heard "Path 0 in Erred" (faulty (settings 1 0) (feed Stuck Jammed 0 1)) (report (Path 0)) (2, 15) refl
-    ∷ heard "Path 1 on the glass" (copying 0 (feed Loaded Jammed 1 0) (ring 3 4)) (report (Path 1)) (2, 15) refl
-    ∷ heard "Path 1 in Pending" (holding (settings 1 0) (feed Loaded Jammed 1 0)) (report (Path 1)) (2, 15) refl
-    ∷ heard "Path 1 in Finishing" (draining 0 8 (feed Loaded Jammed 1 0) (ring 3 4)) (report (Path 1)) (2, 15) refl
-    ∷ heard "Path 1 in Erred" (faulty (settings 1 0) (feed Stuck Jammed 1 0)) (report (Path 1)) (2, 15) refl
-    ∷ heard "Path 1 in Idle" (resting (settings 1 0) (feed Loaded Jammed 1 0)) (report (Path 1)) (2, 0) refl
-    ∷ heard "Path refused in Scanning" (drawing 0 8 (ring 3 4)) (report (Path 2)) (2, 15) refl
-    ∷ heard "a Tick counts" (holding (settings 1 0) (feed Loaded Jammed 1 0)) (report Tick) (3, 16) refl
-    ∷ heard "a Tick counts in Erred" (faulty (settings 1 0) (feed Stuck Jammed 1 0)) (report Tick) (3, 16) refl
-    ∷ heard "a Tick counts in Idle, where quiet stays 0" (resting (settings 1 0) (feed Loaded Jammed 1 0)) (report Tick) (3, 0) refl
-    ∷ heard "the Tick that ends the job counts"
+    ∷ quietCounts "Fetch refused, 404" (drawing 0 8 (ring 3 4)) (scan (Fetch J42 255 nine)) (2, 15) refl
+    ∷ quietCounts "Fetch refused, 603" (drawing 0 8 (ring 3 4)) (scan (Fetch J41 255 (61 ∷ 62 ∷ 63 ∷ []))) (2, 15) refl
+    ∷ quietCounts "StartScan refused, 501" (holding (settings 1 0) (feed Loaded Jammed 1 0)) (scan (StartScan 1 7 1 123)) (2, 15) refl
+    ∷ quietCounts "StartScan refused, 601" (holding (settings 1 0) (feed Loaded Jammed 1 0)) (scan (StartScan 3 7 1 123)) (2, 15) refl
+    ∷ quietCounts "StartScan refused, 713" (resting (settings 1 0) (feed Unloaded Jammed 0 0)) (scan (StartScan 1 7 1 123)) (2, 0) refl
+    ∷ quietCounts "Start refused, 712" (holding (settings 1 0) (feed Loaded Jammed 1 0)) (scan (Start 42 1 7)) (2, 15) refl
+    ∷ quietCounts "Start refused, 501" (drawing 0 8 (ring 3 4)) (scan (Start 41 1 7)) (2, 15) refl
+    ∷ quietCounts "Start refused, 711" (faulty (settings 1 0) (feed Stuck Jammed 1 0)) (scan (Start 41 1 7)) (2, 15) refl
+    ∷ quietCounts "Load" (holding (settings 1 0) (feed Loaded Jammed 1 0)) (feeder (Load 41)) (2, 15) refl
+    ∷ quietCounts "Load refused, 713" (holding (settings 1 0) (feed Loaded Jammed 0 0)) (feeder (Load 41)) (2, 15) refl
+    ∷ quietCounts "Load refused, 501" (drawing 0 8 (ring 3 4)) (feeder (Load 41)) (2, 15) refl
+    ∷ quietCounts "Eject" (holding (settings 1 0) (feed Loaded Jammed 1 0)) (feeder (Eject 41 1)) (2, 15) refl
+    ∷ quietCounts "Reset" (faulty (settings 1 0) (feed Stuck Jammed 1 0)) (feeder (Reset 41)) (2, 15) refl
+    ∷ quietCounts "SetFeederMode" (holding (settings 1 0) (feed Unloaded Jammed 1 0)) (feeder (SetFeederMode 41 0)) (2, 15) refl
+    ∷ quietCounts "feeder GetState" (drawing 0 8 (ring 3 4)) (feeder GetFeederState) (2, 15) refl
+    ∷ quietCounts "GetFeederMode" (drawing 0 8 (ring 3 4)) (feeder GetFeederMode) (2, 15) refl
+    ∷ quietCounts "empty Bytes" (drawing 0 8 (ring 3 4)) (report (Bytes [])) (2, 15) refl
+    ∷ quietCounts "Bytes refused, 501" (holding (settings 1 0) (feed Loaded Jammed 1 0)) (report (Bytes (71 ∷ []))) (2, 15) refl
+    ∷ quietCounts "Bytes refused, 603" (drawing 0 8 (ring 3 4)) (report (Bytes (71 ∷ 72 ∷ []))) (2, 15) refl
+    ∷ quietCounts "Side ended refused, in Pending" (holding (settings 1 0) (feed Loaded Jammed 1 0)) (report SideEnded) (2, 15) refl
+    ∷ quietCounts "Side ended refused, in Finishing" (draining 0 8 (feed Loaded Jammed 1 0) (ring 3 4)) (report SideEnded) (2, 15) refl
+    ∷ quietCounts "Tray 0" (drawing 0 8 (ring 3 4)) (report (Tray 0)) (2, 15) refl
+    ∷ quietCounts "Tray refused" (drawing 0 8 (ring 3 4)) (report (Tray 2)) (2, 15) refl
+    ∷ quietCounts "Path 0 in Scanning" (drawing 0 8 (ring 3 4)) (report (Path 0)) (2, 15) refl
+    ∷ quietCounts "Path 0 in Erred" (faulty (settings 1 0) (feed Stuck Jammed 0 1)) (report (Path 0)) (2, 15) refl
+    ∷ quietCounts "Path 1 on the glass" (copying 0 (feed Loaded Jammed 1 0) (ring 3 4)) (report (Path 1)) (2, 15) refl
+    ∷ quietCounts "Path 1 in Pending" (holding (settings 1 0) (feed Loaded Jammed 1 0)) (report (Path 1)) (2, 15) refl
+    ∷ quietCounts "Path 1 in Finishing" (draining 0 8 (feed Loaded Jammed 1 0) (ring 3 4)) (report (Path 1)) (2, 15) refl
+    ∷ quietCounts "Path 1 in Erred" (faulty (settings 1 0) (feed Stuck Jammed 1 0)) (report (Path 1)) (2, 15) refl
+    ∷ quietCounts "Path 1 in Idle" (resting (settings 1 0) (feed Loaded Jammed 1 0)) (report (Path 1)) (2, 0) refl
+    ∷ quietCounts "Path refused in Scanning" (drawing 0 8 (ring 3 4)) (report (Path 2)) (2, 15) refl
+    ∷ quietCounts "a Tick quietCounts" (holding (settings 1 0) (feed Loaded Jammed 1 0)) (report Tick) (3, 16) refl
+    ∷ quietCounts "a Tick quietCounts in Erred" (faulty (settings 1 0) (feed Stuck Jammed 1 0)) (report Tick) (3, 16) refl
+    ∷ quietCounts "a Tick quietCounts in Idle, where quiet stays 0" (resting (settings 1 0) (feed Loaded Jammed 1 0)) (report Tick) (3, 0) refl
+    ∷ quietCounts "the Tick that ends the job quietCounts"
     (at (box (scanner Pending Timeout) (job 41 41 77 74 0) (side 6 8 90) (settings 1 0) (feed Loaded Jammed 1 0) (ring 3 0))) (report Tick) (3, 0) refl
     ∷ []
 
@@ -111,37 +111,37 @@ lives = signs ++ silences
 abbrev pub askedIn : World → Bool × ℕ
 askedIn w = (stopAsked (w .past), w .now .box .job .stop)
 
-abbrev pub asked : (says : String) (s : State) (cs : List Call) (due : Bool × ℕ) → askedIn (watched s cs) ≡ due → Case (Bool × ℕ)
-asked says s cs due e = that says (askedIn (watched s cs)) due e
+abbrev pub askedOver : (says : String) (s : State) (cs : List Call) (due : Bool × ℕ) → askedIn (watched s cs) ≡ due → Case (Bool × ℕ)
+askedOver says s cs due e = that says (askedIn (watched s cs)) due e
 
 pub stopsAsked : List (Case (Bool × ℕ))
 unfolding final live after
 stopsAsked =
-    asked "none asked" (drawing 0 8 (ring 3 4)) [] (false, 0) refl
-    ∷ asked "Stop in Scanning" (drawing 0 8 (ring 3 4)) (scan (Stop 41) ∷ []) (true, 1) refl
-    ∷ asked "Stop in Finishing" (draining 0 8 (feed Loaded Jammed 1 0) (ring 3 4)) (scan (Stop 41) ∷ []) (true, 1) refl
-    ∷ asked "a refused Stop asks for none" (drawing 0 8 (ring 3 4)) (scan (Stop 42) ∷ []) (false, 0) refl
-    ∷ asked "it is asked on after other calls" (drawing 0 8 (ring 3 4))
+    askedOver "none askedOver" (drawing 0 8 (ring 3 4)) [] (false, 0) refl
+    ∷ askedOver "Stop in Scanning" (drawing 0 8 (ring 3 4)) (scan (Stop 41) ∷ []) (true, 1) refl
+    ∷ askedOver "Stop in Finishing" (draining 0 8 (feed Loaded Jammed 1 0) (ring 3 4)) (scan (Stop 41) ∷ []) (true, 1) refl
+    ∷ askedOver "a refused Stop asks for none" (drawing 0 8 (ring 3 4)) (scan (Stop 42) ∷ []) (false, 0) refl
+    ∷ askedOver "it is askedOver on after other calls" (drawing 0 8 (ring 3 4))
     (scan (Stop 41) ∷ report Tick ∷ report (Bytes (71 ∷ [])) ∷ scan GetState ∷ feeder (Load 41) ∷ scan (Fetch J41 2 nine) ∷ []) (true, 1) refl
-    ∷ asked "and after Side ended while bytes are stored" (drawing 0 8 (ring 3 4)) (scan (Stop 41) ∷ report SideEnded ∷ []) (true, 1) refl
-    ∷ asked "Stop in Pending ends the job: no mark" (holding (settings 1 0) (feed Loaded Jammed 1 0)) (scan (Stop 41) ∷ []) (true, 0) refl
-    ∷ asked "then none is asked once a side begins" (holding (settings 1 0) (feed Loaded Jammed 1 0))
+    ∷ askedOver "and after Side ended while bytes are stored" (drawing 0 8 (ring 3 4)) (scan (Stop 41) ∷ report SideEnded ∷ []) (true, 1) refl
+    ∷ askedOver "Stop in Pending ends the job: no mark" (holding (settings 1 0) (feed Loaded Jammed 1 0)) (scan (Stop 41) ∷ []) (true, 0) refl
+    ∷ askedOver "then none is askedOver once a side begins" (holding (settings 1 0) (feed Loaded Jammed 1 0))
     (scan (Stop 41) ∷ scan (StartScan 1 7 0 123) ∷ []) (false, 0) refl
-    ∷ asked "a jam takes the mark away" (drawing 0 8 (ring 3 4)) (scan (Stop 41) ∷ report (Path 1) ∷ []) (true, 0) refl
-    ∷ asked "then none is asked once a side begins, by Start" (drawing 0 8 (ring 3 4))
+    ∷ askedOver "a jam takes the mark away" (drawing 0 8 (ring 3 4)) (scan (Stop 41) ∷ report (Path 1) ∷ []) (true, 0) refl
+    ∷ askedOver "then none is askedOver once a side begins, by Start" (drawing 0 8 (ring 3 4))
     (scan (Stop 41) ∷ report (Path 1) ∷ scan (Start 41 0 1) ∷ []) (false, 0) refl
-    ∷ asked "Path 0 takes none away" (drawing 0 8 (ring 3 4)) (scan (Stop 41) ∷ report (Path 0) ∷ []) (true, 1) refl
-    ∷ asked "a Stop after the side began" (drawing 0 8 (ring 3 4)) (report (Path 1) ∷ scan (Start 41 0 1) ∷ scan (Stop 41) ∷ []) (true, 1) refl
-    ∷ asked "StartScan asks for none" (resting (settings 1 0) (feed Loaded Jammed 1 0)) (scan (StartScan 1 0 0 123) ∷ []) (false, 0) refl
-    ∷ asked "nor Start" (holding (settings 1 0) (feed Loaded Jammed 1 0)) (scan (Start 41 1 0) ∷ []) (false, 0) refl
-    ∷ asked "nor Abort" (holding (settings 1 0) (feed Loaded Jammed 1 0)) (scan (Abort 41) ∷ []) (false, 0) refl
-    ∷ asked "nor GetDestination" (drawing 0 8 (ring 3 4)) (scan (GetDestination 41) ∷ []) (false, 0) refl
-    ∷ asked "nor Fetch" (drawing 0 8 (ring 3 4)) (scan (Fetch J41 1 nine) ∷ []) (false, 0) refl
-    ∷ asked "nor GetState" (drawing 0 8 (ring 3 4)) (scan GetState ∷ []) (false, 0) refl
-    ∷ asked "nor GetSideInformation" (drawing 0 8 (ring 3 4)) (scan GetSideInformation ∷ []) (false, 0) refl
-    ∷ asked "nor a feeder call" (drawing 0 8 (ring 3 4)) (feeder GetFeederState ∷ []) (false, 0) refl
-    ∷ asked "nor a report" (drawing 0 8 (ring 3 4)) (report (Bytes (71 ∷ [])) ∷ []) (false, 0) refl
-    ∷ asked "nor a report that ends the side" (drawing 0 8 (ring 3 4)) (report SideEnded ∷ []) (false, 0) refl
+    ∷ askedOver "Path 0 takes none away" (drawing 0 8 (ring 3 4)) (scan (Stop 41) ∷ report (Path 0) ∷ []) (true, 1) refl
+    ∷ askedOver "a Stop after the side began" (drawing 0 8 (ring 3 4)) (report (Path 1) ∷ scan (Start 41 0 1) ∷ scan (Stop 41) ∷ []) (true, 1) refl
+    ∷ askedOver "StartScan asks for none" (resting (settings 1 0) (feed Loaded Jammed 1 0)) (scan (StartScan 1 0 0 123) ∷ []) (false, 0) refl
+    ∷ askedOver "nor Start" (holding (settings 1 0) (feed Loaded Jammed 1 0)) (scan (Start 41 1 0) ∷ []) (false, 0) refl
+    ∷ askedOver "nor Abort" (holding (settings 1 0) (feed Loaded Jammed 1 0)) (scan (Abort 41) ∷ []) (false, 0) refl
+    ∷ askedOver "nor GetDestination" (drawing 0 8 (ring 3 4)) (scan (GetDestination 41) ∷ []) (false, 0) refl
+    ∷ askedOver "nor Fetch" (drawing 0 8 (ring 3 4)) (scan (Fetch J41 1 nine) ∷ []) (false, 0) refl
+    ∷ askedOver "nor GetState" (drawing 0 8 (ring 3 4)) (scan GetState ∷ []) (false, 0) refl
+    ∷ askedOver "nor GetSideInformation" (drawing 0 8 (ring 3 4)) (scan GetSideInformation ∷ []) (false, 0) refl
+    ∷ askedOver "nor a feeder call" (drawing 0 8 (ring 3 4)) (feeder GetFeederState ∷ []) (false, 0) refl
+    ∷ askedOver "nor a report" (drawing 0 8 (ring 3 4)) (report (Bytes (71 ∷ [])) ∷ []) (false, 0) refl
+    ∷ askedOver "nor a report that ends the side" (drawing 0 8 (ring 3 4)) (report SideEnded ∷ []) (false, 0) refl
     ∷ []
 
 -- a side begins: Scanning after a call before which it was not, or after an accepted Side ended
@@ -265,10 +265,10 @@ abbrev pub trayOut : Outcome
 trayOut = done (box (scanner Idle None) (job 0 0 60 0 0) (side 1 0 0) (settings 1 1) (feed Unloaded None 1 0) (ring 0 0))
 
 abbrev pub startOut : Outcome
-startOut = told (time 123) (box (scanner Pending None) (job 1 1 123 0 0) (side 1 0 0) (settings 1 0) (feed Unloaded None 1 0) (ring 0 0))
+startOut = taking (time 123) (box (scanner Pending None) (job 1 1 123 0 0) (side 1 0 0) (settings 1 0) (feed Unloaded None 1 0) (ring 0 0))
 
 abbrev pub stateOut : Outcome
-stateOut = told (state Pending None) (box (scanner Pending None) (job 1 1 123 0 0) (side 1 0 0) (settings 1 0) (feed Unloaded None 1 0) (ring 0 0))
+stateOut = taking (state Pending None) (box (scanner Pending None) (job 1 1 123 0 0) (side 1 0 0) (settings 1 0) (feed Unloaded None 1 0) (ring 0 0))
 
 abbrev pub history : List Event
 history =
@@ -287,4 +287,4 @@ worlds =
     ∷ []
 
 pub tellings : List (Case (List Outcome))
-tellings = that "what was told" (toldTo history (stateOut ∷ [])) (trayOut ∷ startOut ∷ stateOut ∷ stateOut ∷ []) refl ∷ []
+tellings = that "what was taking" (toldTo history (stateOut ∷ [])) (trayOut ∷ startOut ∷ stateOut ∷ stateOut ∷ []) refl ∷ []

@@ -33,8 +33,8 @@ borne =
     ∷ []
 
 -- ---- the Ticks of a list
-pub ticked : List (Case ℕ)
-ticked =
+pub tickedCases : List (Case ℕ)
+tickedCases =
     that "no call, no Tick" (ticksIn []) 0 refl
     ∷ that "a Tick among others"
     (ticksIn (scan GetState ∷ feeder (Load 0) ∷ report Tick ∷ report SideEnded ∷ report (Tray 1) ∷ report (Path 0) ∷ report (Bytes (1 ∷ [])) ∷ [])) 1 refl
@@ -57,8 +57,8 @@ abbrev loaded : State
 loaded = resting (settings 1 0) (feed Loaded Jammed 0 0)
 
 -- ---- the reasons of a list of lines, whether their tests hold or not
-pub listed : List (Case (List Reason))
-listed =
+pub listedCases : List (Case (List Reason))
+listedCases =
     that "no line" (reasons []) [] refl
     ∷ that "of each line its own"
     (reasons (refuse n601 true ∷ leaving n713 false (loaded .box)
@@ -66,8 +66,8 @@ listed =
     ∷ []
 
 -- ---- what a refusal leaves: by Load's 713 the feeder Unloaded, rest kept; else all as it was
-pub left : List (Case State)
-left =
+pub leftCases : List (Case State)
+leftCases =
     that "by Load's 713 the feeder Unloaded" (leftBy (feeder (Load 0)) 713 loaded)
     (resting (settings 1 0) (feed Unloaded Jammed 0 0)) refl
     ∷ that "by Load's 712 all as it was" (leftBy (feeder (Load 0)) 712 loaded) loaded refl

@@ -1,5 +1,5 @@
 -- By what is lent; then by the question.
-use Rattle.bench_box.specs.Host.{told, none}
+use Rattle.bench_box.specs.Host.{answerTo, none}
 use Rattle.host_record.specs.Stored.{numberAt}
 use Rattle.rules.proofs.Guards.{lt-then, lt-else}
 use mathlib.Core.Path.{refl, sym, ap, _∙_}
@@ -21,7 +21,7 @@ enum-told-2 c = search needs
 
 returns : tie.Need-returns
 returns c = let a = c .before .before .before .args in
-    sym (ap (told (a .words .now) (a .question)) (sym (c .before .before .lent .ensures) ∙ c .enum-told2 .given .1))
+    sym (ap (answerTo (a .words .now) (a .question)) (sym (c .before .before .lent .ensures) ∙ c .enum-told2 .given .1))
 
 mul-result : tie.Need-mul-result
 mul-result c = search needs
@@ -33,13 +33,13 @@ returns-2 : tie.Need-returns-2
 returns-2 c = let seen = c .before .before in
     let a = seen .before .before .before .args in
     lt-then (a .question) 18 _ _ none (c .before .if1 .taken) refl
-    ∙ sym (ap (told (a .words .now) (a .question)) (sym (seen .before .before .lent .ensures) ∙ seen .enum-told .given .1))
+    ∙ sym (ap (answerTo (a .words .now) (a .question)) (sym (seen .before .before .lent .ensures) ∙ seen .enum-told .given .1))
 
 returns-3 : tie.Need-returns-3
 returns-3 c = let seen = c .before in
     let a = seen .before .before .before .args in
     lt-else (a .question) 18 _ (numberAt (a .words .now) (a .question)) _ (c .if1 .left) refl
-    ∙ sym (ap (told (a .words .now) (a .question)) (sym (seen .before .before .lent .ensures) ∙ seen .enum-told .given .1))
+    ∙ sym (ap (answerTo (a .words .now) (a .question)) (sym (seen .before .before .lent .ensures) ∙ seen .enum-told .given .1))
 
 pub bench-box-ask-spec : {M : Type 1} → statement M
 bench-box-ask-spec =

@@ -1,5 +1,5 @@
 -- The tests are the definition's, in its order.
-use Rattle.host_record.specs.Stored.{fitting}
+use Rattle.host_record.specs.Stored.{allFit}
 use mathlib.Core.Path.{refl}
 use borrow.Author.Needs.{needs}
 use Rattle.host_record.proofs.fits.Statement.{statement}
@@ -56,7 +56,7 @@ element-copy-out-result-16 : tie.Need-element-copy-out-result-16
 element-copy-out-result-16 c = search needs
 
 returns : tie.Need-returns
-unfolding fitting
+unfolding allFit
 returns c = refl
 
 pub fits-spec : {M : Type 1} → statement M
