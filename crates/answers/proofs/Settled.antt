@@ -77,7 +77,8 @@ same-after e f = rw (e, f)
 pub gave-settled : {a b : After} {ring ring′ reply reply′ : List ℕ} → gave a ring reply ≡ gave b ring′ reply′
     → (a ≡ b) × (ring ≡ ring′) × (reply ≡ reply′)
 gave-settled {a} {b} {ring} {ring′} {reply} {reply′} e =
-    let told : back (numberTold (a .answer)) (valuesTold (a .next) reply (a .answer)) ≡ back (numberTold (b .answer)) (valuesTold (b .next) reply′ (b .answer)) =
+    let told : back (numberTold (a .answer)) (valuesTold (a .next) reply (a .answer)) ≡ back (numberTold (b .answer))
+    (valuesTold (b .next) reply′ (b .answer)) =
     ap (λ (o : Outcome). back (o .number) (o .values)) e in
     let answer : a .answer ≡ b .answer = sym (read-back (a .next) reply (a .answer)) ∙ told ∙ read-back (b .next) reply′ (b .answer) in
     let next : a .next ≡ b .next = ap (λ (o : Outcome). o .state .box) e in

@@ -3,6 +3,7 @@
 use desk_records::Hearing;
 use desk_stream::Turn;
 use host_record::Loading;
+use host_record::WORDS;
 use rules::Record;
 ghost use mathlib.Core.Path.{_≡_};
 ghost use mathlib.Core.Bool.{true};
@@ -47,7 +48,7 @@ fn tell(out: &mut [usize; 3], p: Progress)
 }
 
 // The record of a box, if it is sound with a ring of so many bytes.
-fn lent(words: &[u64; 18], length: usize) -> Loading
+fn lent(words: &[u64; WORDS], length: usize) -> Loading
     ensures { λ l. ⌜ l ≡ lentBox (now (words .entry)) length ⌝ }
 {
     let loading = host_record::load(words);
@@ -136,7 +137,7 @@ fn perform(
 
 // ---- the functions of the header
 #[no_mangle]
-pub extern "C" fn bench_box_fresh(words: &mut [u64; 18])
+pub extern "C" fn bench_box_fresh(words: &mut [u64; WORDS])
     ensures { λ _. ⌜ now (words .exit) ≡ kept fresh ⌝ }
     ensures { λ _. ⌜ allFit (now (words .exit)) ≡ true ⌝ }
 {
@@ -144,7 +145,7 @@ pub extern "C" fn bench_box_fresh(words: &mut [u64; 18])
 }
 
 #[no_mangle]
-pub extern "C" fn bench_box_tick(words: &mut [u64; 18], length: usize) -> u16
+pub extern "C" fn bench_box_tick(words: &mut [u64; WORDS], length: usize) -> u16
     ensures { λ n. ⌜ n ≡ tickNumber length (loading (now (words .entry))) ⌝ }
     ensures { λ _. ⌜ now (words .exit) ≡ tickWords length (now (words .entry)) (loading (now (words .entry))) ⌝ }
     ensures { λ _. ⌜ (allFit (now (words .entry)) ≡ true → allFit (now (words .exit)) ≡ true) ⌝ }
@@ -160,14 +161,14 @@ pub extern "C" fn bench_box_tick(words: &mut [u64; 18], length: usize) -> u16
 }
 
 #[no_mangle]
-pub extern "C" fn bench_box_ask(words: &[u64; 18], length: usize, question: usize) -> u64
+pub extern "C" fn bench_box_ask(words: &[u64; WORDS], length: usize, question: usize) -> u64
     ensures { λ n. ⌜ n ≡ answerTo (now (words .entry)) question (lentBox (now (words .entry)) length) ⌝ }
 {
     let loading = lent(words, length);
     let Loading::Loads(_) = loading else {
         return NONE;
     };
-    if question < 18 {
+    if question < WORDS {
         return words[question];
     }
     NONE
@@ -175,7 +176,7 @@ pub extern "C" fn bench_box_ask(words: &[u64; 18], length: usize, question: usiz
 
 #[no_mangle]
 pub extern "C" fn bench_box_serve(
-    words: &mut [u64; 18],
+    words: &mut [u64; WORDS],
     ring: &mut [u8],
     input: &[u8],
     offset: u64,
@@ -213,7 +214,7 @@ pub extern "C" fn bench_box_serve(
 
 #[no_mangle]
 pub extern "C" fn bench_box_perform(
-    words: &mut [u64; 18],
+    words: &mut [u64; WORDS],
     ring: &mut [u8],
     reply: &mut [u8],
     input: &[u8],

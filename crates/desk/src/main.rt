@@ -9,6 +9,9 @@ use libc::STDIN_FILENO;
 use libc::STDOUT_FILENO;
 use rules::Record;
 
+// The ring's length.
+const RING: usize = 4096;
+
 // Where the program stands: the record; `held` bytes at the front of the window, of which those before `at` are answered, and the
 // offset in the input of the byte at `at`; whether the input has ended, whether the window wants more of it, whether all is said.
 struct Flow {
@@ -150,6 +153,6 @@ fn pump(buf: &mut [u8], ring: &mut [u8], out: &mut [u8]) {
 fn main() {
     let mut buf = io::large_buffer();
     let mut out = io::large_buffer();
-    let mut ring = [0u8; 4096];
+    let mut ring = [0u8; RING];
     pump(&mut buf, &mut ring, &mut out);
 }

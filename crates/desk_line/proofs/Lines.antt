@@ -36,7 +36,8 @@ whole-line kind number v r = row (hexByte kind) (decimal number) (decimal (r .jo
     (countText (r .side .count)) (extraOf v) (scanLetter (r .scanner .state)) (feedLetter (r .feeder .state))
 
 module _ {o o₁ o₂ o₃ o₄ : List ℕ} {at head counts extra end : ℕ} (kind number : ℕ) (v : Values) (r : Record) where
-  pub line-put : Puts o at ((hexByte kind ++ 32 ∷ []) ++ (decimal number ++ 32 ∷ []) ++ scanLetter (r .scanner .state) ∷ 32 ∷ feedLetter (r .feeder .state) ∷ 32 ∷ [])
+  pub line-put : Puts o at
+      ((hexByte kind ++ 32 ∷ []) ++ (decimal number ++ 32 ∷ []) ++ scanLetter (r .scanner .state) ∷ 32 ∷ feedLetter (r .feeder .state) ∷ 32 ∷ [])
       head o₁
       → Puts o₁ head ((decimal (r .job .held) ++ 32 ∷ []) ++ (decimal (r .side .number) ++ 32 ∷ []) ++ countText (r .side .count) ++ 32 ∷ []) counts o₂
       → Puts o₂ counts (extraOf v) extra o₃

@@ -68,7 +68,8 @@ module _ (s : State) (q : Request) (given reply after ring : List ℕ) (a : Afte
       → Puts o at (lineOf kind number (valuesTold (a .next) after (a .answer)) (a .next)) filled o₁
       → Puts o at (lineFor kind (step s (callWith (length reply) q given))) filled o₁
   answered-line kind f p =
-      moved p (ap (λ (n : ℕ). lineOf kind n (valuesTold (a .next) after (a .answer)) (a .next)) f ∙ ap (λ (b : Bare). lineOf kind (b .number) (b .values) (b .state .box)) told)
+      moved p (ap (λ (n : ℕ). lineOf kind n (valuesTold (a .next) after (a .answer)) (a .next)) f ∙ ap
+      (λ (b : Bare). lineOf kind (b .number) (b .values) (b .state .box)) told)
 
   pub answered-number : {number : ℕ} → number ≡ numberTold (a .answer) → number ≡ step s (callWith (length reply) q given) .number
   answered-number f = f ∙ ap (λ (b : Bare). b .number) told

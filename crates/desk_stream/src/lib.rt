@@ -20,6 +20,9 @@ ghost use Rattle.desk_stream.specs.Window.{outset, served, Holds, unread
 // No line is longer.
 const LINE_ROOM: usize = 640;
 
+// The reply that serves all fetches of a window.
+const REPLY_ROOM: usize = 259;
+
 // What a window gave: the record, how far it was read, how much text stands in the buffer, and whether a record was bad.
 pub struct Served {
     pub next: Record,
@@ -177,7 +180,7 @@ pub fn serve(r: Record, ring: &mut [u8], s: &[u8], base: u64, last: bool, out: &
     ensures { λ t. ⌜ t .at ≤ length (now (s .entry)) ⌝ }
     ensures { λ t. ⌜ t .filled ≤ length (now (out .exit)) ⌝ }
 {
-    let mut reply = [0; 259];
+    let mut reply = [0; REPLY_ROOM];
     serve_with(r, ring, &mut reply, s, base, last, out)
 }
 

@@ -17,6 +17,9 @@ ghost use Rattle.host_record.specs.Stored.{scanNumber, feedNumber, failu
 ghost use Rattle.host_record.specs.Stored.{scannerIn, jobIn, sideIn, settingsIn, feederIn, ringIn};
 ghost use Rattle.host_record.specs.Stored.{recorded, loading};
 
+// How many numbers there are.
+pub const WORDS: usize = 18;
+
 // A record, or numbers that are none.
 pub enum Loading {
     Loads(Record),
@@ -60,46 +63,34 @@ fn feed_number(f: Feed) -> u64
 fn scan_of(n: u64) -> Scan
     ensures { λ s. ⌜ s ≡ scanAt n ⌝ }
 {
-    if n == 0 {
-        return Scan::Idle;
+    match n {
+        0 => Scan::Idle,
+        1 => Scan::Pending,
+        2 => Scan::Scanning,
+        3 => Scan::Finishing,
+        _ => Scan::Erred,
     }
-    if n == 1 {
-        return Scan::Pending;
-    }
-    if n == 2 {
-        return Scan::Scanning;
-    }
-    if n == 3 {
-        return Scan::Finishing;
-    }
-    Scan::Erred
 }
 
 fn failure_of(n: u64) -> Failure
     ensures { λ f. ⌜ f ≡ failureAt n ⌝ }
 {
-    if n == 0 {
-        return Failure::None;
+    match n {
+        0 => Failure::None,
+        1 => Failure::Jammed,
+        _ => Failure::Timeout,
     }
-    if n == 1 {
-        return Failure::Jammed;
-    }
-    Failure::Timeout
 }
 
 fn feed_of(n: u64) -> Feed
     ensures { λ f. ⌜ f ≡ feedAt n ⌝ }
 {
-    if n == 0 {
-        return Feed::Unloaded;
+    match n {
+        0 => Feed::Unloaded,
+        1 => Feed::Loaded,
+        2 => Feed::Busy,
+        _ => Feed::Erred,
     }
-    if n == 1 {
-        return Feed::Loaded;
-    }
-    if n == 2 {
-        return Feed::Busy;
-    }
-    Feed::Erred
 }
 
 // ---- numbers as fields
@@ -125,7 +116,7 @@ fn long(n: u64) -> u32
 }
 
 // Each number fits its field.
-fn fits(w: &[u64; 18]) -> bool
+fn fits(w: &[u64; WORDS]) -> bool
     ensures { λ b. ⌜ b ≡ allFit (now (w .entry)) ⌝ }
 {
     (w[0] < 5)
@@ -147,7 +138,7 @@ fn fits(w: &[u64; 18]) -> bool
 }
 
 // ---- the record's parts, from numbers that fit
-fn scanner(w: &[u64; 18]) -> Scanner
+fn scanner(w: &[u64; WORDS]) -> Scanner
     ensures { λ c. ⌜ c ≡ scannerIn (now (w .entry)) ⌝ }
 {
     let state = scan_of(w[0]);
@@ -155,7 +146,7 @@ fn scanner(w: &[u64; 18]) -> Scanner
     Scanner { state, failure }
 }
 
-fn job(w: &[u64; 18]) -> Job
+fn job(w: &[u64; WORDS]) -> Job
     requires { ⌜ allFit (now w) ≡ true ⌝ }
     ensures { λ j. ⌜ j ≡ jobIn (now (w .entry)) ⌝ }
 {
@@ -171,7 +162,7 @@ fn job(w: &[u64; 18]) -> Job
     }
 }
 
-fn side(w: &[u64; 18]) -> Side
+fn side(w: &[u64; WORDS]) -> Side
     requires { ⌜ allFit (now w) ≡ true ⌝ }
     ensures { λ d. ⌜ d ≡ sideIn (now (w .entry)) ⌝ }
 {
@@ -182,7 +173,7 @@ fn side(w: &[u64; 18]) -> Side
     }
 }
 
-fn settings(w: &[u64; 18]) -> Settings
+fn settings(w: &[u64; WORDS]) -> Settings
     requires { ⌜ allFit (now w) ≡ true ⌝ }
     ensures { λ t. ⌜ t ≡ settingsIn (now (w .entry)) ⌝ }
 {
@@ -192,7 +183,7 @@ fn settings(w: &[u64; 18]) -> Settings
     }
 }
 
-fn feeder(w: &[u64; 18]) -> Feeder
+fn feeder(w: &[u64; WORDS]) -> Feeder
     requires { ⌜ allFit (now w) ≡ true ⌝ }
     ensures { λ f. ⌜ f ≡ feederIn (now (w .entry)) ⌝ }
 {
@@ -206,7 +197,7 @@ fn feeder(w: &[u64; 18]) -> Feeder
     }
 }
 
-fn ring(w: &[u64; 18]) -> Ring
+fn ring(w: &[u64; WORDS]) -> Ring
     ensures { λ g. ⌜ g ≡ ringIn (now (w .entry)) ⌝ }
 {
     Ring {
@@ -215,7 +206,7 @@ fn ring(w: &[u64; 18]) -> Ring
     }
 }
 
-fn whole(w: &[u64; 18]) -> Record
+fn whole(w: &[u64; WORDS]) -> Record
     requires { ⌜ allFit (now w) ≡ true ⌝ }
     ensures { λ r. ⌜ r ≡ recorded (now (w .entry)) ⌝ }
 {
@@ -235,7 +226,7 @@ fn whole(w: &[u64; 18]) -> Record
     }
 }
 
-pub fn load(w: &[u64; 18]) -> Loading
+pub fn load(w: &[u64; WORDS]) -> Loading
     ensures { λ l. ⌜ l ≡ loading (now (w .entry)) ⌝ }
 {
     if !fits(w) {
@@ -271,7 +262,7 @@ fn of_place(x: usize) -> u64
     x as u64
 }
 
-pub fn keep(w: &mut [u64; 18], r: Record)
+pub fn keep(w: &mut [u64; WORDS], r: Record)
     ensures { λ _. ⌜ now (w .exit) ≡ kept r ⌝ }
     ensures { λ _. ⌜ allFit (now (w .exit)) ≡ true ⌝ }
 {

@@ -6,9 +6,12 @@ ghost use Rattle.rules.specs.Moves.{name};
 ghost use Rattle.rules.specs.Machine.{same};
 ghost use Rattle.name.specs.Spelled.{padded};
 
+// The longest name's length.
+const MOST: usize = 18;
+
 // The bytes of a name and how many there are; unused bytes are 0.
 pub struct Name {
-    pub bytes: [u8; 18],
+    pub bytes: [u8; MOST],
     pub len: usize,
 }
 
@@ -42,7 +45,7 @@ pub fn present(r: Record) -> Name
     let z = digit(number / 1);
     if t.append == 1 {
         let bytes = [74, a, b, c, e, f, g, h, i, k, l, x, y, z, 46, 106, 112, 103];
-        return Name { bytes, len: 18 };
+        return Name { bytes, len: MOST };
     }
     let bytes = [74, a, b, c, e, f, g, h, i, k, l, 46, 106, 112, 103, 0, 0, 0];
     Name { bytes, len: 15 }

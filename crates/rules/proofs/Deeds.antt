@@ -191,7 +191,8 @@ module _ (s : State) (h : Good s) where
       let q = scans-on (scanOf s) in
       pathed-cases (λ (x : Record). Deed s c (accepted nothing x s)) (s .box) v
       (λ e. jams e (caught-sound (s .box) (length (s .bytes)) e h))
-      (λ e. besides c nothing (driven Input.Jam f) (sym (free-unless (scanOf s) (s .box) e (h .phase))) (driven-fit Input.Jam f i) q refl nothing-mute refl refl)
+      (λ e. besides c nothing (driven Input.Jam f) (sym (free-unless (scanOf s) (s .box) e (h .phase)))
+      (driven-fit Input.Jam f i) q refl nothing-mute refl refl)
       (besides c nothing (pathAt 0 f) refl (record { tray = i .tray; path = omega arith; jam = refl }) q refl nothing-mute refl refl)
   report-done Tick k = second (ticked-sound (s .box) (length (s .bytes)) h)
 

@@ -46,7 +46,8 @@ starred =
     ∷ keeps "SideCount 1000 is 601" (resting (settings 1 0) (feed Loaded Jammed 1 0)) (scan (StartScan 1 1000 1 123)) 601 refl
     ∷ keeps "SideCount −2 is 601" (resting (settings 1 0) (feed Loaded Jammed 1 0)) (scan (StartScan 1 minusTwo 1 123)) 601 refl
     ∷ keeps "glass 2 is 601" (resting (settings 1 0) (feed Loaded Jammed 1 0)) (scan (StartScan 0 2 1 123)) 601 refl
-    ∷ afterwards "granted 10, Pending: nine tickings hold it" (resting (settings 1 0) (feed Loaded Jammed 1 0)) (scan (StartScan 0 0 1 10) ∷ tickings 8) (report Tick)
+    ∷ afterwards "granted 10, Pending: nine tickings hold it" (resting (settings 1 0) (feed Loaded Jammed 1 0))
+    (scan (StartScan 0 0 1 10) ∷ tickings 8) (report Tick)
     (done (box (scanner Pending None) (job 42 42 10 9 0) (side 1 0 90) (settings 0 1) (feed Loaded Jammed 1 0) (ring 3 0))) refl
     ∷ afterwards "the tenth ends it" (resting (settings 1 0) (feed Loaded Jammed 1 0)) (scan (StartScan 0 0 1 10) ∷ tickings 9) (report Tick)
     (done (box (scanner Idle Timeout) (job 0 42 10 0 0) (side 1 0 90) (settings 0 1) (feed Loaded Jammed 1 0) (ring 0 0))) refl
@@ -54,7 +55,8 @@ starred =
     (scan (Fetch J42-001 255 nine))
     (sent 0 false [] (65 ∷ 66 ∷ 67 ∷ 68 ∷ 69 ∷ [])
     (box (scanner Pending None) (job 42 42 10 9 0) (side 1 0 90) (settings 0 1) (feed Loaded Jammed 1 0) (ring 3 0))) refl
-    ∷ afterwards "puts off nothing" (resting (settings 1 0) (feed Loaded Jammed 1 0)) (scan (StartScan 0 0 1 10) ∷ tickings 9 ++ scan (Fetch J42-001 255 nine) ∷ [])
+    ∷ afterwards "puts off nothing" (resting (settings 1 0) (feed Loaded Jammed 1 0))
+    (scan (StartScan 0 0 1 10) ∷ tickings 9 ++ scan (Fetch J42-001 255 nine) ∷ [])
     (report Tick)
     (done (box (scanner Idle Timeout) (job 0 42 10 0 0) (side 1 0 90) (settings 0 1) (feed Loaded Jammed 1 0) (ring 0 0))) refl
     ∷ case "Load from Loaded, tray empty: 713, Unloaded" (resting (settings 1 0) (feed Loaded Jammed 0 0)) (feeder (Load 0))

@@ -156,7 +156,9 @@ same-length-7 : tie.Need-same-length-7
 same-length-7 c = search needs
 
 returns-6 : tie.Need-returns-6
-returns-6 c = rw (c .before .before .before .before .before .before .request6 .given .1) (c .before .before .fetch .ensures, ap (λ (o : Outcome). o .reply) (c .before .before .fetch .ensures))
+returns-6 c =
+    rw (c .before .before .before .before .before .before .request6 .given .1)
+    (c .before .before .fetch .ensures, ap (λ (o : Outcome). o .reply) (c .before .before .fetch .ensures))
 
 same-length-8 : tie.Need-same-length-8
 same-length-8 c = search needs

@@ -26,13 +26,17 @@ refused-requires-3 : tie.Need-refused-requires-3
 refused-requires-3 c κs = search needs
 
 returns-3 : tie.Need-returns-3
-returns-3 c = rw (← (c .before .before .before .feed .ensures), ← (c .before .before .before .before .before .before .before .before .ask .ensures)) (search (needs, guards, numbers) depth 12)
+returns-3 c =
+    rw (← (c .before .before .before .feed .ensures), ← (c .before .before .before .before .before .before .before .before .ask .ensures))
+    (search (needs, guards, numbers) depth 12)
 
 told-requires : tie.Need-told-requires
 told-requires c κs = search needs
 
 returns-4 : tie.Need-returns-4
-returns-4 c = rw (← (c .before .before .before .feed .ensures), ← (c .before .before .before .before .before .before .before .before .ask .ensures)) (search (needs, guards, numbers) depth 12)
+returns-4 c =
+    rw (← (c .before .before .before .feed .ensures), ← (c .before .before .before .before .before .before .before .before .ask .ensures))
+    (search (needs, guards, numbers) depth 12)
 
 pub by-rule-spec : {M : Type 1} → statement M
 by-rule-spec =

@@ -46,4 +46,20 @@ returns-6 : tie.Need-returns-6
 returns-6 c = search needs
 
 pub beside-spec : {M : Type 1} → statement M
-beside-spec = tie.close (tie.spec enum-told enum-told-2 enum-told-3 set-tray-requires enum-told-4 clear-requires enum-told-5 enum-told-6 returns returns-2 returns-3 returns-4 returns-5 returns-6)
+beside-spec =
+    tie.close
+    (tie.spec
+    enum-told
+    enum-told-2
+    enum-told-3
+    set-tray-requires
+    enum-told-4
+    clear-requires
+    enum-told-5
+    enum-told-6
+    returns
+    returns-2
+    returns-3
+    returns-4
+    returns-5
+    returns-6)

@@ -77,7 +77,8 @@ returns c =
     let jobs = settings .before .before in
     let states = jobs .before .before in
     kept-each _
-    (states .before .before .before .scan-number .ensures) (states .before .before .failure-number .ensures) (states .before .feed-number .ensures) (states .failure-number2 .ensures)
+    (states .before .before .before .scan-number .ensures) (states .before .before .failure-number .ensures) (states .before .feed-number .ensures)
+    (states .failure-number2 .ensures)
     (jobs .before .of-long .ensures) (jobs .of-long2 .ensures) (settings .before .of-byte .ensures) (settings .of-byte2 .ensures)
     (times .before .of-word .ensures) (times .of-word2 .ensures) (sides .before .before .of-long3 .ensures) (sides .before .of-word3 .ensures)
     (sides .of-long4 .ensures) (marks .before .before .of-byte3 .ensures) (marks .before .of-byte4 .ensures) (marks .of-byte5 .ensures)

@@ -1,25 +1,14 @@
--- Each test is the definition's.
-use borrow.Author.Needs.{needs}
-use Rattle.rules.proofs.Guards.{numbers}
+-- Each arm knows its number; the last knows that it is none of the others.
+use borrow.Author.Tests.{ne-eqb}
 use Rattle.host_record.proofs.scan_of.Statement.{statement}
 use Rattle.host_record.proofs.scan_of.Tie as tie
-use Rattle.host_record.proofs.scan_of.Reads as reads
-use Rattle.host_record.proofs.scan_of.Lts as lts
-
-returns : tie.Need-returns
-returns c = search (needs, numbers) depth 12
-
-returns-2 : tie.Need-returns-2
-returns-2 c = search (needs, numbers) depth 12
-
-returns-3 : tie.Need-returns-3
-returns-3 c = search (needs, numbers) depth 12
-
-returns-4 : tie.Need-returns-4
-returns-4 c = search (needs, numbers) depth 12
-
-returns-5 : tie.Need-returns-5
-returns-5 c = search (needs, numbers) depth 12
 
 pub scan-of-spec : {M : Type 1} → statement M
-scan-of-spec = tie.close (tie.spec returns returns-2 returns-3 returns-4 returns-5)
+scan-of-spec =
+    tie.close
+    (tie.spec
+    (λ c. rw (c .match .keys1))
+    (λ c. rw (c .match .keys2))
+    (λ c. rw (c .match .keys3))
+    (λ c. rw (c .match .keys4))
+    (λ c. rw (ne-eqb _ 0 (c .match .rest .0 .0 .0 .1), ne-eqb _ 1 (c .match .rest .0 .0 .1), ne-eqb _ 2 (c .match .rest .0 .1), ne-eqb _ 3 (c .match .rest .1))))

@@ -40,4 +40,18 @@ returns-4 : tie.Need-returns-4
 returns-4 c = rw (c .accept4 .ensures, c .before .enum-told4 .given .1)
 
 pub end-side-spec : {M : Type 1} → statement M
-end-side-spec = tie.close (tie.spec enum-told accept-requires enum-told-2 accept-requires-2 enum-told-3 accept-requires-3 enum-told-4 accept-requires-4 returns returns-2 returns-3 returns-4)
+end-side-spec =
+    tie.close
+    (tie.spec
+    enum-told
+    accept-requires
+    enum-told-2
+    accept-requires-2
+    enum-told-3
+    accept-requires-3
+    enum-told-4
+    accept-requires-4
+    returns
+    returns-2
+    returns-3
+    returns-4)

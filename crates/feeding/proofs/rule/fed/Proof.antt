@@ -74,4 +74,27 @@ unfolding fed
 returns-6 c = rw (c .end-side .ensures, c .before .enum-told6 .given .1)
 
 pub fed-spec : {M : Type 1} → statement M
-fed-spec = tie.close (tie.spec enum-told load-requires if-ready-requires enum-told-2 accept-requires if-ready-requires-2 enum-told-3 accept-requires-2 if-ready-requires-3 enum-told-4 reset-requires enum-told-5 accept-requires-3 enum-told-6 end-side-requires returns returns-2 returns-3 returns-4 returns-5 returns-6)
+fed-spec =
+    tie.close
+    (tie.spec
+    enum-told
+    load-requires
+    if-ready-requires
+    enum-told-2
+    accept-requires
+    if-ready-requires-2
+    enum-told-3
+    accept-requires-2
+    if-ready-requires-3
+    enum-told-4
+    reset-requires
+    enum-told-5
+    accept-requires-3
+    enum-told-6
+    end-side-requires
+    returns
+    returns-2
+    returns-3
+    returns-4
+    returns-5
+    returns-6)

@@ -37,4 +37,17 @@ returns-4 : tie.Need-returns-4
 returns-4 c = rw (c .clear .ensures, c .before .enum-told4 .given .1)
 
 pub reset-spec : {M : Type 1} → statement M
-reset-spec = tie.close (tie.spec enum-told accept-requires enum-told-2 accept-requires-2 enum-told-3 enum-told-4 clear-requires returns returns-2 returns-3 returns-4)
+reset-spec =
+    tie.close
+    (tie.spec
+    enum-told
+    accept-requires
+    enum-told-2
+    accept-requires-2
+    enum-told-3
+    enum-told-4
+    clear-requires
+    returns
+    returns-2
+    returns-3
+    returns-4)

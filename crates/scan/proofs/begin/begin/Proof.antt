@@ -32,7 +32,15 @@ told-requires c κs = search needs
 returns-3 : tie.Need-returns-3
 returns-3 c =
     let tests = c .before .before .before .before in
-    rw (c .told .ensures, c .before .start .ensures, ← (tests .before .jam-stops .ensures), ← (tests .sheet-stops .ensures), c .before .before .before .if1 .left, c .before .before .if2 .left)
+    rw (
+      c .told .ensures,
+      c .before .start .ensures,
+      ← (tests .before .jam-stops .ensures),
+      ←
+          (tests .sheet-stops .ensures),
+      c .before .before .before .if1 .left,
+      c .before .before .if2 .left,
+    )
 
 pub begin-spec : {M : Type 1} → statement M
 begin-spec =

@@ -38,7 +38,9 @@ refused-requires-3 c κs = search needs
 
 returns-3 : tie.Need-returns-3
 unfolding step refusals scanRefusals effect scanEffect
-returns-3 c = rw (c .refused3 .ensures, ← (c .before .before .before .before .before .before .before .settle .ensures)) (leads (skip (search tests) (skip (search tests) (hit (search tests)))))
+returns-3 c =
+    rw (c .refused3 .ensures, ← (c .before .before .before .before .before .before .before .settle .ensures))
+    (leads (skip (search tests) (skip (search tests) (hit (search tests)))))
 
 waits-requires : tie.Need-waits-requires
 waits-requires c κs = search needs
@@ -48,7 +50,9 @@ refused-requires-4 c κs = search needs
 
 returns-4 : tie.Need-returns-4
 unfolding step refusals scanRefusals effect scanEffect
-returns-4 c = rw (c .refused4 .ensures, ← (c .before .before .before .before .before .before .before .before .before .settle .ensures)) (leads (skip (search tests) (skip (search tests) (skip (search tests) (hit (search tests))))))
+returns-4 c =
+    rw (c .refused4 .ensures, ← (c .before .before .before .before .before .before .before .before .before .settle .ensures))
+    (leads (skip (search tests) (skip (search tests) (skip (search tests) (hit (search tests))))))
 
 begin-requires : tie.Need-begin-requires
 begin-requires c κs = search needs

@@ -39,7 +39,9 @@ refused-requires-3 c κs = search needs
 
 returns-3 : tie.Need-returns-3
 unfolding step refusals scanRefusals effect scanEffect
-returns-3 c = rw (c .refused3 .ensures, ← (c .before .before .before .before .before .before .before .settle .ensures)) (leads (skip (search tests) (skip (search tests) (hit (search tests)))))
+returns-3 c =
+    rw (c .refused3 .ensures, ← (c .before .before .before .before .before .before .before .settle .ensures))
+    (leads (skip (search tests) (skip (search tests) (hit (search tests)))))
 
 settle-requires-2 : tie.Need-settle-requires-2
 settle-requires-2 c κs = search needs
@@ -54,7 +56,10 @@ returns-4 : tie.Need-returns-4
 unfolding step refusals scanRefusals effect scanEffect given
 returns-4 c =
     let settle = c .before .before .before .before .before .before .before .before .before .settle in
-    rw (← (settle .ensures)) (leads (skip (search tests) (skip (search tests) (skip (search tests) (begins _ (c .begin .ensures) refl (rw (c .before .give .ensures, c .before .before .settle2 .ensures)))))))
+    rw (← (settle .ensures))
+    (leads (skip (search tests)
+    (skip (search tests)
+    (skip (search tests) (begins _ (c .begin .ensures) refl (rw (c .before .give .ensures, c .before .before .settle2 .ensures)))))))
 
 pub start-scan-spec : {M : Type 1} → statement M
 start-scan-spec =
