@@ -8,7 +8,7 @@ use Rattle.rules.specs.Calls.{Call, State}
 use Rattle.rules.specs.Machine.{step, runBy, run}
 use Rattle.answers.specs.declared.Request.{Request}
 use Rattle.desk_line.specs.Line.{lineFor}
-use Rattle.desk_stream.specs.Desk.{Heard, calling, wrong, hears, deskCall, Input, ends, before, badAt, readOn, readFrom, badText, endText, linesOf, printed}
+use Rattle.desk_stream.specs.Desk.{Heard, calling, wrong, hears, deskCall, Records, ends, before, badAt, readOn, readFrom, badText, endText, linesOf, printed}
 
 -- what is printed from an offset on, for a box
 abbrev pub textFrom : State → ℕ → List ℕ → List ℕ
@@ -27,9 +27,9 @@ nothing-left box at (b ∷ s) e = absurd (omega arith)
 
 reads : (at b : ℕ) (s : List ℕ) (h : Heard) → hears (b ∷ s) ≡ h → readFrom 0 at (b ∷ s) ≡ readOn h at (λ skip next. readFrom skip next s)
 unfolding readFrom
-reads at b s h e = let rest : ℕ → ℕ → Input = λ skip next. readFrom skip next s in ap (λ (x : Heard). readOn x at rest) e
+reads at b s h e = let rest : ℕ → ℕ → Records = λ skip next. readFrom skip next s in ap (λ (x : Heard). readOn x at rest) e
 
-printed-before : (box : State) (k : ℕ) (c : Call) (i : Input) → printed box (before k c i) ≡ lineFor k (step box c) ++ printed (step box c .state) i
+printed-before : (box : State) (k : ℕ) (c : Call) (i : Records) → printed box (before k c i) ≡ lineFor k (step box c) ++ printed (step box c .state) i
 unfolding printed runBy
 printed-before box k c i = append-assoc (lineFor k (step box c)) (linesOf (i .kinds) (run (step box c .state) (i .calls) .outcomes)) (endText (i .ending))
 
@@ -48,7 +48,7 @@ one-more box at (b ∷ s) k q given (suc size) h e g =
     ap (printed box) (reads at b s (calling k q given (suc size)) e)
     ∙ printed-before box k c (readFrom (suc size - 1) (at + suc size) s)
     ∙ ap (λ (n : ℕ). lineFor k (step box c) ++ printed (step box c .state) (readFrom n (at + suc size) s)) rest
-    ∙ ap (λ (i : Input). lineFor k (step box c) ++ printed (step box c .state) i) (skipped size (at + suc size) s)
+    ∙ ap (λ (i : Records). lineFor k (step box c) ++ printed (step box c .state) i) (skipped size (at + suc size) s)
 
 pub one-bad : (box : State) (at : ℕ) (s : List ℕ) → 0 < length s → hears s ≡ wrong → textFrom box at s ≡ badText at
 one-bad box at [] h e = absurd (omega arith)

@@ -49,24 +49,24 @@ pub data Ending : Type 0 where
   clean : Ending
   badAt : ℕ → Ending
 
-pub record Input : Type 0 where
+pub record Records : Type 0 where
   pub kinds : List ℕ
   pub calls : List Call
   pub ending : Ending
 
-abbrev pub ends : Ending → Input
+abbrev pub ends : Ending → Records
 ends e = record { kinds = []; calls = []; ending = e }
 
-abbrev pub before : ℕ → Call → Input → Input
+abbrev pub before : ℕ → Call → Records → Records
 before k c i = record { kinds = k ∷ i .kinds; calls = c ∷ i .calls; ending = i .ending }
 
 -- from an offset on; a record that reads is followed by the rest behind it
-abbrev pub readOn : Heard → ℕ → (ℕ → ℕ → Input) → Input
+abbrev pub readOn : Heard → ℕ → (ℕ → ℕ → Records) → Records
 readOn (calling k q given size) at rest = before k (deskCall q given) (rest (size - 1) (at + size))
 readOn wrong at rest = ends (badAt at)
 
 -- `skip` more bytes belong to the record before; `at` is the offset of the next
-unfoldable pub readFrom : ℕ → ℕ → List ℕ → Input
+unfoldable pub readFrom : ℕ → ℕ → List ℕ → Records
 readFrom skip at [] = ends clean
 readFrom (suc skip) at (b ∷ s) = readFrom skip at s
 readFrom zero at (b ∷ s) = readOn (hears (b ∷ s)) at (λ skip next. readFrom skip next s)
@@ -89,7 +89,7 @@ endText clean = []
 endText (badAt at) = badText at
 
 -- the lines of what `run` gives for the calls read
-unfoldable pub printed : State → Input → List ℕ
+unfoldable pub printed : State → Records → List ℕ
 printed box i = linesOf (i .kinds) (run box (i .calls) .outcomes) ++ endText (i .ending)
 
 -- the desk program: a fresh box with a ring of 4,096 bytes, and the input from its first byte on

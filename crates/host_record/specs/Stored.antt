@@ -36,7 +36,7 @@ failureNumber Failure.None = 0
 failureNumber Failure.Jammed = 1
 failureNumber Failure.Timeout = 2
 
--- and back; what is none of the others reads as the last, and `fitting` lets no more than the last through
+-- and back; what is none of the others reads as the last, and `allFit` lets no more than the last through
 abbrev pub scanAt : ℕ → Scan
 scanAt n = cond (eqb n 0) Scan.Idle (cond (eqb n 1) Scan.Pending (cond (eqb n 2) Scan.Scanning (cond (eqb n 3) Scan.Finishing Scan.Erred)))
 

@@ -127,7 +127,7 @@ lent (feeder c) = []
 lent (report c) = []
 
 -- ---- refusals
--- a line of the table: reason, test, and what it leaves where that is not all as it was
+-- a row of the table at work: reason, test, and what it leaves where that is not all as it was
 pub data Guard : Type 0 where
   refuse : Reason → Bool → Guard
   leaving : Reason → Bool → Record → Guard
