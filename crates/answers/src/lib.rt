@@ -1,6 +1,7 @@
 // What is asked of the box, and what it answers: a case for each kind of values that an acceptance reports, or the reason for
 // which the call is refused.
 use rules::Failure;
+use rules::Fed;
 use rules::Feed;
 use rules::Record;
 use rules::Scan;
@@ -53,9 +54,9 @@ impl Why {
             Why::Unlisted => 601,
             Why::OtherJob => 712,
             Why::OtherName => 404,
-            Why::WrongState => 501,
-            Why::FeederErred => 711,
-            Why::NoSheet => 713,
+            Why::WrongState => Fed::WRONG_STATE,
+            Why::FeederErred => Fed::ERRED,
+            Why::NoSheet => Fed::NO_SHEET,
             Why::NoRoom => 603,
         }
     }

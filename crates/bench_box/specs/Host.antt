@@ -40,12 +40,12 @@ tickWords n ws (Loading.Loads r) = kept (secondOf r n .state .box)
 tickWords n ws Loading.Malformed = ws
 
 -- ---- what the box is doing: the number asked for, or none where nothing is told
-abbrev pub none : ℕ
-none = 18446744073709551615
+abbrev pub noAnswer : ℕ
+noAnswer = 18446744073709551615
 
 abbrev pub answerTo : List ℕ → ℕ → Loading → ℕ
-answerTo ws question (Loading.Loads r) = cond (ltb question 18) (numberAt ws question) none
-answerTo ws question Loading.Malformed = none
+answerTo ws question (Loading.Loads r) = cond (ltb question 18) (numberAt ws question) noAnswer
+answerTo ws question Loading.Malformed = noAnswer
 
 -- ---- what a record or a window of them comes to: bytes read, bytes of text written, and whether a bad record was met
 pub record Came : Type 0 where

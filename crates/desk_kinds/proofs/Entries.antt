@@ -71,7 +71,7 @@ listed-short k n h = entries-short 255 k n entries all-short h
 -- ---- what the table admits asks something
 asks-by : (e : Option Entry) (n : ℕ) (p : List ℕ) → within (limitsBy e) n ≡ true → (q : Request) × (askingBy p e ≡ Asking.Asks q)
 asks-by none n p w = absurd (false≢true w)
-asks-by (some e) n p w = (e .asking p, refl)
+asks-by (some e) n p w = (e .requested p, refl)
 
 pub admitted-asks : (k n : ℕ) (p : List ℕ) → within (limitsOf k) n ≡ true → (q : Request) × (askingOf k p ≡ Asking.Asks q)
 unfolding limitsOf askingOf

@@ -14,10 +14,10 @@ pub record Entry : Type 0 where
   pub kind : ℕ
   pub shortest : ℕ
   pub longest : ℕ
-  pub asking : List ℕ → Request
+  pub requested : List ℕ → Request
 
 abbrev pub entry : ℕ → ℕ → ℕ → (List ℕ → Request) → Entry
-entry k lo hi asks = record { kind = k; shortest = lo; longest = hi; asking = asks }
+entry k lo hi asks = record { kind = k; shortest = lo; longest = hi; requested = asks }
 
 abbrev pub fetchKind : ℕ
 fetchKind = 0x06
@@ -78,7 +78,7 @@ within (Limits.Listed lo hi) n = leb lo n && leb n hi
 -- what a payload asks
 abbrev pub askingBy : List ℕ → Option Entry → Asking
 askingBy p none = Asking.Unlisted
-askingBy p (some e) = Asking.Asks (e .asking p)
+askingBy p (some e) = Asking.Asks (e .requested p)
 
 unfoldable pub askingOf : ℕ → List ℕ → Asking
 askingOf k p = askingBy p (entryOf k)

@@ -10,7 +10,7 @@ use Rattle.rules.specs.declared.Input.{Input}
 use Rattle.rules.specs.declared.Fed.{Fed}
 use Rattle.rules.specs.Record.{busy, stuck}
 use Rattle.rules.specs.Calls.{n501, n711, n713, FeederCall, feeder, Load, Eject, Reset, Guard, refuse, leaving}
-use Rattle.rules.specs.Feeder.{stands, loads, fed, fedAt, gives, ejecting}
+use Rattle.rules.specs.Feeder.{stands, loads, fed, fedAt, denies, ejecting}
 use Rattle.rules.specs.Moves.{withFeeder, fedBy}
 use Rattle.rules.proofs.Choice.{choice}
 use Rattle.rules.proofs.Feeding.{is-ready}
@@ -56,48 +56,48 @@ module _ (c : FeederCall) (r : Record) (ring : List ℕ) where
   by-one {wrong = false} j k e = rw (e, j, k) (skip refl accept)
 
 -- ---- which numbers the rule does not give
-eject-713 : (v : ℕ) (f : Feeder) → gives n713 (fedAt (ejecting v) f) ≡ false
+eject-713 : (v : ℕ) (f : Feeder) → denies n713 (fedAt (ejecting v) f) ≡ false
 unfolding fed
-eject-713 v f = choice (λ (i : Input). gives n713 (fedAt i f) ≡ false) (eqb v 0) (λ _. out) (λ _. out)
+eject-713 v f = choice (λ (i : Input). denies n713 (fedAt i f) ≡ false) (eqb v 0) (λ _. out) (λ _. out)
   where
     Free : Fed → Type 0
-    Free d = gives n713 d ≡ false
+    Free d = denies n713 d ≡ false
 
-    out : gives n713 (fedAt Input.EjectOne f) ≡ false
+    out : denies n713 (fedAt Input.EjectOne f) ≡ false
     out = choice Free (busy (f .state)) (λ _. refl) (λ _. choice Free (stuck (f .state)) (λ _. refl) (λ _. refl))
 
-reset-711 : (f : Feeder) → gives n711 (fedAt Input.Reset f) ≡ false
+reset-711 : (f : Feeder) → denies n711 (fedAt Input.Reset f) ≡ false
 unfolding fed
-reset-711 f = choice (λ (d : Fed). gives n711 d ≡ false) (busy (f .state)) (λ _. refl) (λ _. refl)
+reset-711 f = choice (λ (d : Fed). denies n711 d ≡ false) (busy (f .state)) (λ _. refl) (λ _. refl)
 
-reset-713 : (f : Feeder) → gives n713 (fedAt Input.Reset f) ≡ false
+reset-713 : (f : Feeder) → denies n713 (fedAt Input.Reset f) ≡ false
 unfolding fed
-reset-713 f = choice (λ (d : Fed). gives n713 d ≡ false) (busy (f .state)) (λ _. refl) (λ _. refl)
+reset-713 f = choice (λ (d : Fed). denies n713 d ≡ false) (busy (f .state)) (λ _. refl) (λ _. refl)
 
 -- ---- the calls
 abbrev Ruled : Input → Record → After → Type 0
 Ruled i r a =
     let d = fedAt i (r .feeder) in
-    Answered (gives n501 d) (gives n711 d) (gives n713 d) (fedBy i r) r a
+    Answered (denies n501 d) (denies n711 d) (denies n713 d) (fedBy i r) r a
 
 module _ {j : ℕ} {r : Record} {ring : List ℕ} {a : After} where
   pub load-leads : Ruled Input.Load r a
       → LeadTo (Load j) r ring (fedBy Input.Load r)
-      (refuse n501 (gives n501 (fedAt Input.Load (r .feeder)))
-      ∷ refuse n711 (gives n711 (fedAt Input.Load (r .feeder)))
-      ∷ leaving n713 (gives n713 (loads (r .feeder .tray))) (withFeeder (stands (loads (r .feeder .tray) .next) (r .feeder)) r)
+      (refuse n501 (denies n501 (fedAt Input.Load (r .feeder)))
+      ∷ refuse n711 (denies n711 (fedAt Input.Load (r .feeder)))
+      ∷ leaving n713 (denies n713 (loads (r .feeder .tray))) (withFeeder (stands (loads (r .feeder .tray) .next) (r .feeder)) r)
       ∷ []) a
   unfolding fed
   load-leads =
       by-three (Load j) r ring λ b x.
       let e = sym (is-ready (r .feeder .state) (loads (r .feeder .tray)) b x .told) in
-      (ap (gives n713) e, ap (λ (d : Fed). withFeeder (stands (d .next) (r .feeder)) r) e)
+      (ap (denies n713) e, ap (λ (d : Fed). withFeeder (stands (d .next) (r .feeder)) r) e)
 
   pub eject-leads : {v : ℕ} {i : Input} → i ≡ ejecting v → Ruled i r a
       → LeadTo (Eject j v) r ring (fedBy (ejecting v) r)
-      (refuse n501 (gives n501 (fedAt (ejecting v) (r .feeder))) ∷ refuse n711 (gives n711 (fedAt (ejecting v) (r .feeder))) ∷ []) a
+      (refuse n501 (denies n501 (fedAt (ejecting v) (r .feeder))) ∷ refuse n711 (denies n711 (fedAt (ejecting v) (r .feeder))) ∷ []) a
   eject-leads {v} e = rw e (by-two (Eject j v) r ring (eject-713 v (r .feeder)))
 
   pub reset-leads : Ruled Input.Reset r a
-      → LeadTo (Reset j) r ring (fedBy Input.Reset r) (refuse n501 (gives n501 (fedAt Input.Reset (r .feeder))) ∷ []) a
+      → LeadTo (Reset j) r ring (fedBy Input.Reset r) (refuse n501 (denies n501 (fedAt Input.Reset (r .feeder))) ∷ []) a
   reset-leads = by-one (Reset j) r ring (reset-711 (r .feeder)) (reset-713 (r .feeder))

@@ -11,7 +11,7 @@ ghost use mathlib.Core.Path.{_≡_};
 ghost use mathlib.Core.Bool.{cond};
 ghost use mathlib.Core.List.{[]};
 ghost use Rattle.rules.specs.Calls.{n501, n711, n713, feeder, Load, Eject, Reset};
-ghost use Rattle.rules.specs.Feeder.{fedAt, gives, ejecting};
+ghost use Rattle.rules.specs.Feeder.{fedAt, denies, ejecting};
 ghost use Rattle.rules.specs.Moves.{fedBy};
 ghost use Rattle.rules.specs.Machine.{step};
 ghost use Rattle.answers.specs.declared.Why.{Why};
@@ -21,9 +21,9 @@ ghost use Rattle.answers.specs.Told.{stateOf, gave};
 // What the feeder's rule makes of the record, and the answer for its number.
 fn by_rule(input: Input, r: Record) -> After
     ensures { λ a. ⌜ a ≡
-        cond (gives n501 (fedAt input (r .feeder))) (record { next = r; answer = Answer.Refused Why.WrongState })
-        (cond (gives n711 (fedAt input (r .feeder))) (record { next = r; answer = Answer.Refused Why.FeederErred })
-        (cond (gives n713 (fedAt input (r .feeder))) (record { next = fedBy input r; answer = Answer.Refused Why.NoSheet })
+        cond (denies n501 (fedAt input (r .feeder))) (record { next = r; answer = Answer.Refused Why.WrongState })
+        (cond (denies n711 (fedAt input (r .feeder))) (record { next = r; answer = Answer.Refused Why.FeederErred })
+        (cond (denies n713 (fedAt input (r .feeder))) (record { next = fedBy input r; answer = Answer.Refused Why.NoSheet })
         (record { next = fedBy input r; answer = Answer.Done }))) ⌝ }
 {
     let f = r.feeder;

@@ -2,6 +2,7 @@
 use answers::After;
 use answers::Answer;
 use answers::Why;
+use rules::Feeder;
 use rules::Record;
 ghost use mathlib.Core.Path.{_≡_};
 ghost use mathlib.Core.List.{[]};
@@ -14,7 +15,7 @@ ghost use Rattle.answers.specs.Told.{stateOf, gave};
 fn is_simplex(mode: u8) -> bool
     ensures { λ b. ⌜ b ≡ eqb mode simplex ⌝ }
 {
-    mode == 0
+    mode == Feeder::SIMPLEX
 }
 
 // The one mode is 0, Simplex.
@@ -44,7 +45,7 @@ pub fn get_feeder_mode(r: Record, ring: &[u8]) -> After
     if !sound::sound_with(r, ring) {
         return After::refused(Why::Unsound, r);
     }
-    After::told(Answer::Mode(0), r)
+    After::told(Answer::Mode(Feeder::SIMPLEX), r)
 }
 
 pub fn get_state(r: Record, ring: &[u8]) -> After

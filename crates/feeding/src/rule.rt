@@ -107,5 +107,5 @@ pub fn ask(input: Input, f: Feeder) -> Fed
     ensures { λ d. ⌜ d ≡ fedAt input f ⌝ }
 {
     let state = f.state;
-    fed(0, state, input, f.tray, f.path)
+    fed(Feeder::SIMPLEX, state, input, f.tray, f.path)
 }

@@ -40,9 +40,9 @@ fn move_out(ring: &[u8], start: usize, want: usize, reply: &mut [u8]) -> usize
     ensures { λ k. ⌜ k ≡ min want (length (now (reply .entry)) - 4) ⌝ }
     ensures { λ k. ⌜ now (reply .exit) ≡ replyWith (now (ring .entry)) start k (now (reply .entry)) ⌝ }
 {
-    reply[0] = 165;
-    reply[1] = 90;
-    reply[2] = 6;
+    reply[0] = 0xA5;
+    reply[1] = 0x5A;
+    reply[2] = 0x06;
     let k = ring::take_out(ring, start, want, &mut reply[4..]);
     reply[3] = k as u8;
     k

@@ -19,7 +19,7 @@ pub fn with_feeder(f: Feeder, r: Record) -> Record
     n
 }
 
-// The feeder moved by an input.
+// The record with its feeder moved by an input.
 pub fn feed(input: Input, r: Record) -> Record
     ensures { λ n. ⌜ n ≡ fedBy input r ⌝ }
 {

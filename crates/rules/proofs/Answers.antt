@@ -14,7 +14,7 @@ use Rattle.rules.specs.declared.Feed.{Feed}
 use Rattle.rules.specs.declared.Feeder.{Feeder}
 use Rattle.rules.specs.declared.Input.{Input}
 use Rattle.rules.specs.Record.{scanning, erred, idle, busy, stuck}
-use Rattle.rules.specs.Feeder.{stands, loads, fed, fedAt, gives}
+use Rattle.rules.specs.Feeder.{stands, loads, fed, fedAt, denies}
 use Rattle.rules.specs.Moves.{withFeeder}
 use Rattle.rules.specs.Calls.{rowOf, StartScan, Start, Stop, Abort, GetDestination, Fetch, GetState, GetSideInformation, Load, Eject, Reset}
 use Rattle.rules.specs.Calls.{SetFeederMode, GetFeederState, GetFeederMode, Bytes, SideEnded, Tray, Path, Tick, Call, scan, feeder, report, Reason}
@@ -22,7 +22,7 @@ use Rattle.rules.specs.Calls.{n604, n601, n712, n404, n501, n711, n713, 
 use Rattle.rules.specs.Machine.{start, notHeld, notOurs, scanRefusals, feederRefusals, reportRefusals, refusals, scanEffect, feederEffect, reportEffect}
 use Rattle.rules.specs.Machine.{effect, allGuards, step}
 use Rattle.rules.specs.Watch.{scanOf, wasAccepted, sign}
-use Rattle.rules.specs.Promises.{below, bears, First, noLine, refuses, passes, leaves, goes, OneOf, zero, here, there, reasons, leftBy, Refusal}
+use Rattle.rules.specs.Promises.{below, bears, First, noGuard, refuses, passes, leaves, goes, OneOf, zero, here, there, reasons, leftBy, Refusal}
 use Rattle.rules.proofs.Choice.{or-r, and-l, and-r}
 use Rattle.rules.proofs.Feeding.{is-ready, no-sheet}
 use Rattle.rules.proofs.Sound.{Sound, from-sound}
@@ -37,9 +37,9 @@ nonzero n711 = refl
 nonzero n713 = refl
 nonzero n603 = refl
 
--- ---- the first line that holds
+-- ---- the first guard that holds
 first-one : {m n : ℕ} {ls : List Guard} → First m ls → First n ls → m ≡ n
-first-one noLine noLine = refl
+first-one noGuard noGuard = refl
 first-one (refuses e) (refuses f) = refl
 first-one (refuses e) (passes f q) = absurd (true≢false (sym e ∙ f))
 first-one (passes e p) (refuses f) = absurd (true≢false (sym f ∙ e))
@@ -51,14 +51,14 @@ first-one (goes e p) (goes f q) = first-one p q
 
 answers : (ls : List Guard) (s : State) (c : Call) (o : Outcome) → o .number ≡ 0 → First (answer ls s c o .number) ls
 unfolding answer
-answers [] s c o e = rw e noLine
+answers [] s c o e = rw e noGuard
 answers (refuse n true ∷ ls) s c o e = refuses refl
 answers (refuse n false ∷ ls) s c o e = passes refl (answers ls s c o e)
 answers (leaving n true r ∷ ls) s c o e = leaves refl
 answers (leaving n false r ∷ ls) s c o e = goes refl (answers ls s c o e)
 
 -- ---- what the calls' lists and effects have in common, call by call
--- no line leaves anything but all as it was
+-- no guard leaves anything but all as it was
 abbrev keeping : List Guard → Bool
 keeping [] = true
 keeping (refuse n t ∷ ls) = keeping ls
@@ -115,7 +115,7 @@ in-order s c n = (
 
 -- ---- the numbers named
 first-named : {n : ℕ} {ls : List Guard} → First n ls → OneOf n (reasons ls)
-first-named noLine = zero
+first-named noGuard = zero
 first-named (refuses e) = here
 first-named (passes e p) = there (first-named p)
 first-named (leaves e) = here
@@ -135,7 +135,7 @@ Clear [] = Unit {0}
 Clear (refuse n t ∷ ls) = (t ≡ false) × Clear ls
 Clear (leaving n t r ∷ ls) = (t ≡ false) × Clear ls
 
--- P of each line's refusal, the lines before it being clear
+-- P of each guard's refusal, the guards before it being clear
 abbrev pub Leaves : (Outcome → Type 0) → List Guard → State → Call → Type 0
 Leaves P [] s c = Unit {0}
 Leaves P (refuse n t ∷ ls) s c = P (refused n (s .box) s c) × (t ≡ false → Leaves P ls s c)
@@ -150,7 +150,7 @@ by-tests P (refuse n false ∷ ls) s c o l ok = by-tests P ls s c o (l .1 refl) 
 by-tests P (leaving n true r ∷ ls) s c o l ok = l .0 refl
 by-tests P (leaving n false r ∷ ls) s c o l ok = by-tests P ls s c o (l .1 refl) (λ k. ok (refl, k))
 
--- Load alone has a `leaving` line
+-- Load alone has a `leaving` guard
 abbrev pub Unloading : (Outcome → Type 0) → State → Call → Type 0
 Unloading P s c =
     (j : ℕ) → c ≡ feeder (Load j) → busy (s .box .feeder .state) ≡ false → stuck (s .box .feeder .state) ≡ false
@@ -158,8 +158,8 @@ Unloading P s c =
 
 -- its 713 comes to a feeder that is neither Busy nor Erred, and leaves it Unloaded
 no-sheet-left : (P : Outcome → Type 0) (s : State) (j : ℕ) → Unloading P s (feeder (Load j))
-    → gives n501 (fedAt Input.Load (s .box .feeder)) ≡ false → gives n711 (fedAt Input.Load (s .box .feeder)) ≡ false
-    → gives n713 (loads (s .box .feeder .tray)) ≡ true
+    → denies n501 (fedAt Input.Load (s .box .feeder)) ≡ false → denies n711 (fedAt Input.Load (s .box .feeder)) ≡ false
+    → denies n713 (loads (s .box .feeder .tray)) ≡ true
     → P (refused n713 (withFeeder (stands (loads (s .box .feeder .tray) .next) (s .box .feeder)) (s .box)) s (feeder (Load j)))
 unfolding fed
 no-sheet-left P s j u b x e =

@@ -11,7 +11,7 @@ use Rattle.rules.specs.declared.Input.{Input}
 use Rattle.rules.specs.declared.Fed.{Fed}
 use Rattle.rules.specs.Record.{busy, stuck, on, implies}
 use Rattle.rules.specs.Calls.{n501, n711, n713}
-use Rattle.rules.specs.Feeder.{becomes, denied, ready, loads, fed, gives, driven, ejecting}
+use Rattle.rules.specs.Feeder.{becomes, denied, ready, loads, fed, denies, driven, ejecting}
 use Rattle.rules.proofs.Choice.{choice, vacuous, tollens, and-r}
 use Rattle.rules.proofs.Sound.{FeederFit}
 
@@ -26,15 +26,15 @@ pub record Ready (s : Feed) (x d : Fed) : Type 0 where
   pub fit : stuck s ≡ false
   pub told : d ≡ x
 
-pub is-ready : (s : Feed) (x : Fed) → gives n501 (ready s x) ≡ false → gives n711 (ready s x) ≡ false → Ready s x (ready s x)
+pub is-ready : (s : Feed) (x : Fed) → denies n501 (ready s x) ≡ false → denies n711 (ready s x) ≡ false → Ready s x (ready s x)
 is-ready s x =
-    ready-cases (λ (d : Fed). gives n501 d ≡ false → gives n711 d ≡ false → Ready s x d) s x (λ _ e _. absurd (true≢false e))
+    ready-cases (λ (d : Fed). denies n501 d ≡ false → denies n711 d ≡ false → Ready s x d) s x (λ _ e _. absurd (true≢false e))
     (λ _ _ e. absurd (true≢false e)) (λ b e _ _. record { free = b; fit = e; told = refl })
 
 -- Load's 713 leaves it Unloaded
-pub no-sheet : (tray : ℕ) → gives n713 (loads tray) ≡ true → loads tray .next ≡ Feed.Unloaded
+pub no-sheet : (tray : ℕ) → denies n713 (loads tray) ≡ true → loads tray .next ≡ Feed.Unloaded
 no-sheet tray =
-    choice (λ (d : Fed). gives n713 d ≡ true → d .next ≡ Feed.Unloaded) (eqb tray 0) (λ _ _. refl) (λ _ e. absurd (false≢true e))
+    choice (λ (d : Fed). denies n713 d ≡ true → d .next ≡ Feed.Unloaded) (eqb tray 0) (λ _ _. refl) (λ _ e. absurd (false≢true e))
 
 -- ---- a call leaves the feeder Busy or not as before, refused or accepted
 abbrev pub AsBusy : Input → Type 0

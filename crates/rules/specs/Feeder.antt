@@ -61,8 +61,8 @@ fed mode s Input.SideEnd tray path = becomes (cond (busy s) Feed.Unloaded s)
 abbrev pub fedAt : Input → Feeder → Fed
 fedAt i f = fed simplex (f .state) i (f .tray) (f .path)
 
-abbrev pub gives : Reason → Fed → Bool
-gives n d = eqb (d .number) (numberOf n)
+abbrev pub denies : Reason → Fed → Bool
+denies n d = eqb (d .number) (numberOf n)
 
 -- ---- what an input changes besides the state
 -- Reset: Erred becomes Unloaded, none

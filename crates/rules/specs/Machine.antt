@@ -8,7 +8,7 @@ use Rattle.rules.specs.declared.Record.{Record}
 use Rattle.rules.specs.declared.Input.{Input}
 use Rattle.rules.specs.Record.{endless, counted, idle, pending, scanning, erred, unloaded, on, marked, granting, fresh, sound}
 use Rattle.rules.specs.Ring.{wrap, put, queue}
-use Rattle.rules.specs.Feeder.{stands, trayAt, simplex, loads, fedAt, gives, ejecting, jamStops, sheetStops}
+use Rattle.rules.specs.Feeder.{stands, trayAt, simplex, loads, fedAt, denies, ejecting, jamStops, sheetStops}
 use Rattle.rules.specs.Moves.{device, headed, withFeeder, fedBy, ended, settled, given, started, stopped, name, scanLength, least, last}
 use Rattle.rules.specs.Moves.{fetched, filled, sideEnded, pathed, ticked}
 use Rattle.rules.specs.Calls.{ScanCall, StartScan, Start, Stop, Abort, GetDestination, Fetch, GetState, GetSideInformation, FeederCall, Load, Eject}
@@ -69,17 +69,17 @@ unfoldable pub feederRefusals : FeederCall → Record → List Guard
 -- 501 and 711 are tested before 713, which asks the tray alone
 feederRefusals (Load j) r =
     refuse n712 (notOurs j r)
-    ∷ refuse n501 (gives n501 (fedAt Input.Load (r .feeder)))
-    ∷ refuse n711 (gives n711 (fedAt Input.Load (r .feeder)))
-    ∷ leaving n713 (gives n713 (loads (r .feeder .tray))) (withFeeder (stands (loads (r .feeder .tray) .next) (r .feeder)) r)
+    ∷ refuse n501 (denies n501 (fedAt Input.Load (r .feeder)))
+    ∷ refuse n711 (denies n711 (fedAt Input.Load (r .feeder)))
+    ∷ leaving n713 (denies n713 (loads (r .feeder .tray))) (withFeeder (stands (loads (r .feeder .tray) .next) (r .feeder)) r)
     ∷ []
 feederRefusals (Eject j v) r =
     refuse n601 (not (listed v))
     ∷ refuse n712 (notOurs j r)
-    ∷ refuse n501 (gives n501 (fedAt (ejecting v) (r .feeder)))
-    ∷ refuse n711 (gives n711 (fedAt (ejecting v) (r .feeder)))
+    ∷ refuse n501 (denies n501 (fedAt (ejecting v) (r .feeder)))
+    ∷ refuse n711 (denies n711 (fedAt (ejecting v) (r .feeder)))
     ∷ []
-feederRefusals (Reset j) r = refuse n712 (notOurs j r) ∷ refuse n501 (gives n501 (fedAt Input.Reset (r .feeder))) ∷ []
+feederRefusals (Reset j) r = refuse n712 (notOurs j r) ∷ refuse n501 (denies n501 (fedAt Input.Reset (r .feeder))) ∷ []
 feederRefusals (SetFeederMode j m) r =
     refuse n601 (not (eqb m simplex)) ∷ refuse n712 (notOurs j r) ∷ refuse n501 (not (unloaded (r .feeder .state))) ∷ []
 feederRefusals GetFeederState r = []

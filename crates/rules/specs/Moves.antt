@@ -55,7 +55,7 @@ countAt c r = withSide (record { number = r .side .number; count = c; destinatio
 abbrev pub emptied : Record → Record
 emptied r = withRing (fresh .ring) r
 
--- the feeder moved by an input
+-- the record with its feeder moved by an input
 abbrev pub fedBy : Input → Record → Record
 fedBy i r = withFeeder (driven i (r .feeder)) r
 

@@ -32,9 +32,9 @@ pub record Ringed (ring : List ℕ) : Type 0 where
   pub most : length ring ≤ mostRing
 
 -- ---- demand 1
--- n is the number of the first line whose test holds, or 0 where none does
+-- n is the number of the first guard whose test holds, or 0 where none does
 pub data First : ℕ → List Guard → Type 0 where
-  noLine : First 0 []
+  noGuard : First 0 []
   refuses : {n : Reason} {t : Bool} {ls : List Guard} → t ≡ true → First (numberOf n) (refuse n t ∷ ls)
   passes : {m : ℕ} {n : Reason} {t : Bool} {ls : List Guard} → t ≡ false → First m ls → First m (refuse n t ∷ ls)
   leaves : {n : Reason} {t : Bool} {r : Record} {ls : List Guard} → t ≡ true → First (numberOf n) (leaving n t r ∷ ls)
@@ -51,7 +51,7 @@ abbrev pub below : ℕ → List Reason → Bool
 below n [] = true
 below n (r ∷ rs) = ltb n (rowOf r) && below (rowOf r) rs
 
--- the reasons of a list of lines
+-- the reasons of a list of guards
 abbrev pub reasons : List Guard → List Reason
 reasons [] = []
 reasons (refuse n t ∷ ls) = n ∷ reasons ls

@@ -56,11 +56,11 @@ ordered =
 abbrev loaded : State
 loaded = resting (settings 1 0) (feed Loaded Jammed 0 0)
 
--- ---- the reasons of a list of lines, whether their tests hold or not
+-- ---- the reasons of a list of guards, whether their tests hold or not
 pub listedCases : List (Case (List Reason))
 listedCases =
-    that "no line" (reasons []) [] refl
-    ∷ that "of each line its own"
+    that "no guard" (reasons []) [] refl
+    ∷ that "of each guard its own"
     (reasons (refuse n601 true ∷ leaving n713 false (loaded .box)
     ∷ refuse n404 false ∷ [])) (n601 ∷ n713 ∷ n404 ∷ []) refl
     ∷ []

@@ -97,6 +97,11 @@ pub struct Record {
     pub ring: Ring,
 }
 
+impl Feeder {
+    // The one mode.
+    pub const SIMPLEX: u8 = 0;
+}
+
 impl Job {
     // The greatest job number.
     pub const GREATEST: u32 = 4294967295;

@@ -1,5 +1,5 @@
 -- By what is lent; then by the question.
-use Rattle.bench_box.specs.Host.{answerTo, none}
+use Rattle.bench_box.specs.Host.{answerTo, noAnswer}
 use Rattle.host_record.specs.Stored.{numberAt}
 use Rattle.rules.proofs.Guards.{lt-then, lt-else}
 use mathlib.Core.Path.{refl, sym, ap, _∙_}
@@ -32,7 +32,7 @@ element-copy-out-result c = search needs
 returns-2 : tie.Need-returns-2
 returns-2 c = let seen = c .before .before in
     let a = seen .before .before .before .args in
-    lt-then (a .question) 18 _ _ none (c .before .if1 .taken) refl
+    lt-then (a .question) 18 _ _ noAnswer (c .before .if1 .taken) refl
     ∙ sym (ap (answerTo (a .words .now) (a .question)) (sym (seen .before .before .lent .ensures) ∙ seen .enum-told .given .1))
 
 returns-3 : tie.Need-returns-3
