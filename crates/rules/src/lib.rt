@@ -26,14 +26,14 @@ pub enum Failure {
     Timeout,
 }
 
-// The granted time.
-pub struct Granted {
-    pub seconds: u16,
-}
-
 pub struct Scanner {
     pub state: Scan,
     pub failure: Failure,
+}
+
+// The granted time.
+pub struct Granted {
+    pub seconds: u16,
 }
 
 // The job held (0 for none), the last number given, its time, its quiet seconds, the stop-asked mark.
@@ -45,17 +45,23 @@ pub struct Job {
     pub stop: u8,
 }
 
+// UseFeeder and AppendSideNumber.
+pub struct Settings {
+    pub feeder: u8,
+    pub append: u8,
+}
+
+// Where the stored picture bytes start in the lent ring, and how many there are.
+pub struct Ring {
+    pub start: usize,
+    pub stored: usize,
+}
+
 // SideNumber, SideCount as the bits of its two's complement, DestinationID.
 pub struct Side {
     pub number: u16,
     pub count: u32,
     pub destination: u32,
-}
-
-// UseFeeder and AppendSideNumber.
-pub struct Settings {
-    pub feeder: u8,
-    pub append: u8,
 }
 
 // The feeder with the tray sensor (MorePages) and the path sensor (1 is jammed).
@@ -80,12 +86,6 @@ pub enum Input {
 pub struct Fed {
     pub next: Feed,
     pub number: u16,
-}
-
-// Where the stored picture bytes start in the lent ring, and how many there are.
-pub struct Ring {
-    pub start: usize,
-    pub stored: usize,
 }
 
 pub struct Record {

@@ -28,7 +28,9 @@ refused-requires-2 c κs = search needs
 
 returns-2 : tie.Need-returns-2
 unfolding step refusals scanRefusals effect scanEffect
-returns-2 c = rw (c .refused2 .ensures, ← (c .before .before .before .before .before .settle .ensures)) (leads (skip (search tests) (hit (search tests))))
+returns-2 c =
+    let settle = c .before .before .before .before .before .settle in
+    rw (c .refused2 .ensures, ← (settle .ensures)) (leads (skip (search tests) (hit (search tests))))
 
 not-held-requires : tie.Need-not-held-requires
 not-held-requires c κs = search needs
@@ -39,8 +41,8 @@ refused-requires-3 c κs = search needs
 returns-3 : tie.Need-returns-3
 unfolding step refusals scanRefusals effect scanEffect
 returns-3 c =
-    rw (c .refused3 .ensures, ← (c .before .before .before .before .before .before .before .settle .ensures))
-    (leads (skip (search tests) (skip (search tests) (hit (search tests)))))
+    let settle = c .before .before .before .before .before .before .before .settle in
+    rw (c .refused3 .ensures, ← (settle .ensures)) (leads (skip (search tests) (skip (search tests) (hit (search tests)))))
 
 waits-requires : tie.Need-waits-requires
 waits-requires c κs = search needs
@@ -51,8 +53,8 @@ refused-requires-4 c κs = search needs
 returns-4 : tie.Need-returns-4
 unfolding step refusals scanRefusals effect scanEffect
 returns-4 c =
-    rw (c .refused4 .ensures, ← (c .before .before .before .before .before .before .before .before .before .settle .ensures))
-    (leads (skip (search tests) (skip (search tests) (skip (search tests) (hit (search tests))))))
+    let settle = c .before .before .before .before .before .before .before .before .before .settle in
+    rw (c .refused4 .ensures, ← (settle .ensures)) (leads (skip (search tests) (skip (search tests) (skip (search tests) (hit (search tests))))))
 
 begin-requires : tie.Need-begin-requires
 begin-requires c κs = search needs
