@@ -63,7 +63,7 @@ static void fail(struct host *host, int status, const char *what, const char *wh
     host->status = status;
 }
 
-/* Every call that takes the box may answer 604: the record is damaged, or kept for a ring of another length. */
+/* Every call that takes the box may answer 604: the record is damaged, of another version, or kept for another ring. */
 static bool is_sound(struct host *host, uint16_t number)
 {
     if (number == BENCH_BOX_UNSOUND) {

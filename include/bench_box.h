@@ -30,9 +30,16 @@
 extern "C" {
 #endif
 
-/* The box record. Opaque: copy it, keep it, put it back, but read it by bench_box_ask. */
-#define BENCH_BOX_WORDS 18
-#define BENCH_BOX_SIZE 144
+/*
+ * The box record. Opaque: copy it, keep it, put it back, but read it by bench_box_ask.
+ *
+ * A record begins with a version number, which a later layout changes. A record kept under another version is answered
+ * like any that is no record: 604, and nothing changes. So a host that keeps records over a change of the library starts
+ * with a fresh one.
+ */
+#define BENCH_BOX_VERSION_NUMBER 1
+#define BENCH_BOX_WORDS 19
+#define BENCH_BOX_SIZE 152
 #define BENCH_BOX_ALIGN 8
 typedef struct bench_box {
     uint64_t words[BENCH_BOX_WORDS];
@@ -65,7 +72,7 @@ typedef struct bench_box {
 #define BENCH_BOX_WRONG_STATE 501   /* not in this state */
 #define BENCH_BOX_WRONG_VALUE 601   /* a value that is not listed */
 #define BENCH_BOX_NO_ROOM 603       /* more bytes than the ring has room for, or a reply under four bytes */
-#define BENCH_BOX_UNSOUND 604       /* the box record is not sound with the lent ring */
+#define BENCH_BOX_UNSOUND 604       /* the box record is of another version, or not sound with the lent ring */
 #define BENCH_BOX_FEEDER_FAILED 711 /* the feeder is Erred */
 #define BENCH_BOX_WRONG_JOB 712     /* not the number of the job held */
 #define BENCH_BOX_NO_SHEET 713      /* no sheet in the tray; by Load the feeder is Unloaded, the rest kept */
@@ -153,29 +160,42 @@ enum bench_box_feeder_state {
 };
 enum bench_box_failure { BENCH_BOX_FAILURE_NONE = 0, BENCH_BOX_FAILURE_JAMMED = 1, BENCH_BOX_FAILURE_TIMEOUT = 2 };
 
-/* What the box is doing. */
+/* What the box is doing, part by part of the record. */
 enum bench_box_question {
-    BENCH_BOX_SCAN_STATE = 0,     /* enum bench_box_scan_state */
-    BENCH_BOX_SCAN_FAILURE = 1,   /* enum bench_box_failure */
-    BENCH_BOX_FEEDER_STATE = 2,   /* enum bench_box_feeder_state */
-    BENCH_BOX_FEEDER_FAILURE = 3, /* enum bench_box_failure */
-    BENCH_BOX_JOB = 4,            /* the job held, 0 for none */
-    BENCH_BOX_LAST_JOB = 5,       /* the last job number given */
-    BENCH_BOX_USE_FEEDER = 6,
-    BENCH_BOX_APPEND = 7,
-    BENCH_BOX_GRANTED = 8, /* seconds */
-    BENCH_BOX_QUIET = 9,   /* seconds since the last sign of life */
-    BENCH_BOX_SIDE_COUNT = 10, /* -1 as 4294967295: cast to int32_t */
-    BENCH_BOX_SIDE_NUMBER = 11,
-    BENCH_BOX_DESTINATION = 12,
-    BENCH_BOX_STOP_ASKED = 13,
-    BENCH_BOX_TRAY = 14,   /* 1: more pages */
-    BENCH_BOX_PATH = 15,   /* 1: jammed */
-    BENCH_BOX_START = 16,  /* the oldest picture byte's place in the ring */
-    BENCH_BOX_STORED = 17  /* picture bytes waiting in the ring */
+    BENCH_BOX_VERSION = 0, /* always BENCH_BOX_VERSION_NUMBER */
+
+    /* the scanner */
+    BENCH_BOX_SCAN_STATE = 1,   /* enum bench_box_scan_state */
+    BENCH_BOX_SCAN_FAILURE = 2, /* enum bench_box_failure */
+
+    /* the job */
+    BENCH_BOX_JOB = 3,      /* the job held, 0 for none */
+    BENCH_BOX_LAST_JOB = 4, /* the last job number given */
+    BENCH_BOX_GRANTED = 5,  /* seconds */
+    BENCH_BOX_QUIET = 6,    /* seconds since the last sign of life */
+    BENCH_BOX_STOP_ASKED = 7,
+
+    /* the side */
+    BENCH_BOX_SIDE_NUMBER = 8,
+    BENCH_BOX_SIDE_COUNT = 9, /* -1 as 4294967295: cast to int32_t */
+    BENCH_BOX_DESTINATION = 10,
+
+    /* the settings */
+    BENCH_BOX_USE_FEEDER = 11,
+    BENCH_BOX_APPEND = 12,
+
+    /* the feeder */
+    BENCH_BOX_FEEDER_STATE = 13,   /* enum bench_box_feeder_state */
+    BENCH_BOX_FEEDER_FAILURE = 14, /* enum bench_box_failure */
+    BENCH_BOX_TRAY = 15,           /* 1: more pages */
+    BENCH_BOX_PATH = 16,           /* 1: jammed */
+
+    /* the ring */
+    BENCH_BOX_START = 17, /* the oldest picture byte's place in the ring */
+    BENCH_BOX_STORED = 18 /* picture bytes waiting in the ring */
 };
 
-/* The answer to a question that is none, or about a record that is not sound with the ring. */
+/* The answer to a question that is none, or about a record that is of another version or not sound with the ring. */
 #define BENCH_BOX_NONE UINT64_MAX
 
 uint64_t bench_box_ask(const bench_box *box, size_t ring_length, size_t question);

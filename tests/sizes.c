@@ -1,6 +1,6 @@
 /*
  * What the header states, as a host meets it: sizes, every kind, number and state by its name, the reply's layout and how
- * the last bytes of a side are told, the stack; and that no function writes outside the box record.
+ * the last bytes of a side are told, the stack, records that are none; and that no function writes outside the box record.
  */
 #define _DEFAULT_SOURCE
 
@@ -14,6 +14,7 @@
 _Static_assert(sizeof(bench_box) == BENCH_BOX_SIZE, "the record's size");
 _Static_assert(alignof(bench_box) == BENCH_BOX_ALIGN, "the record's alignment");
 _Static_assert(sizeof(bench_box) == BENCH_BOX_WORDS * sizeof(uint64_t), "the record's words");
+_Static_assert(BENCH_BOX_STORED == BENCH_BOX_WORDS - 1, "a question for each word");
 _Static_assert(sizeof(size_t) == sizeof(uint64_t), "lengths of 64 bits");
 
 enum { GUARD = 0xC3, RING = 4096 };
@@ -237,6 +238,35 @@ static void other_functions(void)
     expect(lent.progress.ended == 1 && ask(BENCH_BOX_STORED) == 2 && ask(BENCH_BOX_QUIET) == 1, "a window of five records");
 }
 
+/* What is no record: 604 by every call, no answer to a question, and nothing changes. */
+static void no_record(const bench_box *none, const char *name)
+{
+    const uint8_t record[] = {0xA5, 0x5A, 0x07, 0x00};
+    uint8_t lines[BENCH_BOX_LINE_MOST] = {0};
+    bench_box_progress progress = {7, 7, 7};
+    struct guarded g;
+    int before = failures;
+    memset(&g, GUARD, sizeof g);
+    g.box = *none;
+    expect(bench_box_tick(&g.box, RING) == BENCH_BOX_UNSOUND, "tick of no record");
+    for (size_t question = 0; question <= BENCH_BOX_WORDS; question++) {
+        expect(bench_box_ask(&g.box, RING, question) == BENCH_BOX_NONE, "the answer about no record");
+    }
+    expect(bench_box_serve(&g.box, ring, RING, record, sizeof record, 0, true, lines, sizeof lines, &progress) ==
+               BENCH_BOX_UNSOUND,
+           "serve with no record");
+    expect(progress.read == 0 && progress.written == 0 && progress.ended == 0, "what serve with no record came to");
+    progress = (bench_box_progress){7, 7, 7};
+    expect(bench_box_perform(&g.box, ring, RING, reply, sizeof reply, record, sizeof record, 0, lines, sizeof lines,
+                             &progress) == BENCH_BOX_UNSOUND,
+           "perform with no record");
+    expect(progress.read == 0 && progress.written == 0 && progress.ended == 0, "what perform with no record came to");
+    expect(is_guarded(&g) && memcmp(&g.box, none, sizeof g.box) == 0, "604 changes the record");
+    if (failures > before) {
+        printf("sizes: this is with %s\n", name);
+    }
+}
+
 int main(void)
 {
     struct guarded a, b;
@@ -255,14 +285,16 @@ int main(void)
     expect(is_guarded(&a) && is_guarded(&b), "fresh writes outside the record");
     expect(memcmp(&a.box, &b.box, sizeof a.box) == 0, "fresh leaves words of the record as they were");
 
-    /* Fresh as the requirements have it: both settings 1, granted 60, SideNumber 1, all else 0. */
+    /* Fresh as the requirements have it: both settings 1, granted 60, SideNumber 1, all else 0. The version is no field. */
+    const uint64_t fresh[BENCH_BOX_WORDS] = {
+        [BENCH_BOX_VERSION] = BENCH_BOX_VERSION_NUMBER,
+        [BENCH_BOX_GRANTED] = 60,
+        [BENCH_BOX_SIDE_NUMBER] = 1,
+        [BENCH_BOX_USE_FEEDER] = 1,
+        [BENCH_BOX_APPEND] = 1,
+    };
     for (size_t question = 0; question < BENCH_BOX_WORDS; question++) {
-        uint64_t fresh = question == BENCH_BOX_USE_FEEDER || question == BENCH_BOX_APPEND ||
-                         question == BENCH_BOX_SIDE_NUMBER;
-        if (question == BENCH_BOX_GRANTED) {
-            fresh = 60;
-        }
-        expect(bench_box_ask(&a.box, RING, question) == fresh, "a fresh record's answer");
+        expect(bench_box_ask(&a.box, RING, question) == fresh[question], "a fresh record's answer");
     }
     expect(bench_box_ask(&a.box, RING, BENCH_BOX_WORDS) == BENCH_BOX_NONE, "the answer to no question");
 
@@ -270,31 +302,23 @@ int main(void)
     expect(is_guarded(&a), "tick writes outside the record");
     expect(memcmp(&a.box, &b.box, sizeof a.box) == 0, "tick in Idle changes the record");
 
-    /* A ring too short or too long, and a record of nonsense: 604, and nothing changes. */
+    /* A ring too short or too long; nonsense behind the right version, and a sound record behind another one. */
     expect(bench_box_tick(&a.box, 0) == BENCH_BOX_UNSOUND, "tick with no ring");
     expect(bench_box_tick(&a.box, BENCH_BOX_RING_MOST) == 0, "tick with the longest ring");
     expect(bench_box_tick(&a.box, BENCH_BOX_RING_MOST + 1) == BENCH_BOX_UNSOUND, "tick with too long a ring");
-    memset(&a.box, 0xFF, sizeof a.box);
-    b.box = a.box;
-    expect(bench_box_tick(&a.box, RING) == BENCH_BOX_UNSOUND, "tick of nonsense");
-    expect(bench_box_ask(&a.box, RING, BENCH_BOX_JOB) == BENCH_BOX_NONE, "the answer about nonsense");
-
-    uint8_t lines[BENCH_BOX_LINE_MOST] = {0};
-    const uint8_t record[] = {0xA5, 0x5A, 0x07, 0x00};
-    bench_box_progress progress = {7, 7, 7};
-    expect(bench_box_serve(&a.box, ring, RING, record, sizeof record, 0, true, lines, sizeof lines, &progress) ==
-               BENCH_BOX_UNSOUND,
-           "serve with nonsense");
-    expect(progress.read == 0 && progress.written == 0 && progress.ended == 0, "what serve with nonsense came to");
-    progress = (bench_box_progress){7, 7, 7};
-    expect(bench_box_perform(&a.box, ring, RING, reply, sizeof reply, record, sizeof record, 0, lines, sizeof lines,
-                             &progress) == BENCH_BOX_UNSOUND,
-           "perform with nonsense");
-    expect(progress.read == 0 && progress.written == 0 && progress.ended == 0, "what perform with nonsense came to");
-    expect(is_guarded(&a) && memcmp(&a.box, &b.box, sizeof a.box) == 0, "604 changes the record");
+    memset(&b.box, 0xFF, sizeof b.box);
+    b.box.words[BENCH_BOX_VERSION] = BENCH_BOX_VERSION_NUMBER;
+    no_record(&b.box, "nonsense");
+    const uint64_t versions[] = {0, BENCH_BOX_VERSION_NUMBER + 1, UINT64_C(1) << 32 | BENCH_BOX_VERSION_NUMBER, UINT64_MAX};
+    for (size_t place = 0; place < sizeof versions / sizeof versions[0]; place++) {
+        b.box = a.box;
+        b.box.words[BENCH_BOX_VERSION] = versions[place];
+        no_record(&b.box, "another version");
+    }
 
     /* NULL where the length is 0. */
-    bench_box_fresh(&a.box);
+    uint8_t lines[BENCH_BOX_LINE_MOST] = {0};
+    bench_box_progress progress = {7, 7, 7};
     expect(bench_box_serve(&a.box, ring, RING, NULL, 0, 0, true, NULL, 0, &progress) == 0 && progress.ended == 0,
            "serve of nothing");
     expect(bench_box_perform(&a.box, ring, RING, NULL, 0, NULL, 0, 0, lines, sizeof lines, &progress) == 0 &&

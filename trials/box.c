@@ -87,7 +87,7 @@ struct answer {
     uint32_t ring_length;
 };
 
-_Static_assert(sizeof(struct batch) == 16 && sizeof(struct operation) == 72 && sizeof(struct answer) == 200,
+_Static_assert(sizeof(struct batch) == 16 && sizeof(struct operation) == 72 && sizeof(struct answer) == 208,
                "no padding: the other end has the same layout");
 _Static_assert(sizeof(bench_box) == BENCH_BOX_SIZE && _Alignof(bench_box) == BENCH_BOX_ALIGN,
                "a box is as the header says");
@@ -313,8 +313,9 @@ static void give_back(const struct operation *operation, const size_t *lengths, 
 
 /* The header as the compiler reads it. */
 static const uint64_t layout[] = {
-    BENCH_BOX_WORDS, BENCH_BOX_SIZE, BENCH_BOX_ALIGN, BENCH_BOX_RING_MOST, BENCH_BOX_REPLY_HEAD,
-    BENCH_BOX_REPLY_MOST, BENCH_BOX_LINE_MOST, BENCH_BOX_RECORD_HEAD, BENCH_BOX_RECORD_MOST, BENCH_BOX_NONE,
+    BENCH_BOX_VERSION_NUMBER, BENCH_BOX_WORDS, BENCH_BOX_SIZE, BENCH_BOX_ALIGN, BENCH_BOX_RING_MOST,
+    BENCH_BOX_REPLY_HEAD, BENCH_BOX_REPLY_MOST, BENCH_BOX_LINE_MOST, BENCH_BOX_RECORD_HEAD, BENCH_BOX_RECORD_MOST,
+    BENCH_BOX_NONE,
     /* what the compiler makes of it */
     sizeof(bench_box), _Alignof(bench_box), sizeof(bench_box_progress), offsetof(bench_box_progress, read),
     offsetof(bench_box_progress, written), offsetof(bench_box_progress, ended),
@@ -329,10 +330,10 @@ static const uint64_t layout[] = {
     BENCH_BOX_KIND_BYTES, BENCH_BOX_KIND_SIDE_ENDED, BENCH_BOX_KIND_TRAY, BENCH_BOX_KIND_PATH,
     BENCH_BOX_KIND_TICK,
     /* the questions */
-    BENCH_BOX_SCAN_STATE, BENCH_BOX_SCAN_FAILURE, BENCH_BOX_FEEDER_STATE, BENCH_BOX_FEEDER_FAILURE, BENCH_BOX_JOB,
-    BENCH_BOX_LAST_JOB, BENCH_BOX_USE_FEEDER, BENCH_BOX_APPEND, BENCH_BOX_GRANTED, BENCH_BOX_QUIET,
-    BENCH_BOX_SIDE_COUNT, BENCH_BOX_SIDE_NUMBER, BENCH_BOX_DESTINATION, BENCH_BOX_STOP_ASKED, BENCH_BOX_TRAY,
-    BENCH_BOX_PATH, BENCH_BOX_START, BENCH_BOX_STORED,
+    BENCH_BOX_VERSION, BENCH_BOX_SCAN_STATE, BENCH_BOX_SCAN_FAILURE, BENCH_BOX_JOB, BENCH_BOX_LAST_JOB,
+    BENCH_BOX_GRANTED, BENCH_BOX_QUIET, BENCH_BOX_STOP_ASKED, BENCH_BOX_SIDE_NUMBER, BENCH_BOX_SIDE_COUNT,
+    BENCH_BOX_DESTINATION, BENCH_BOX_USE_FEEDER, BENCH_BOX_APPEND, BENCH_BOX_FEEDER_STATE,
+    BENCH_BOX_FEEDER_FAILURE, BENCH_BOX_TRAY, BENCH_BOX_PATH, BENCH_BOX_START, BENCH_BOX_STORED,
     /* scan states, feeder states, FailureCodes */
     BENCH_BOX_SCAN_IDLE, BENCH_BOX_SCAN_PENDING, BENCH_BOX_SCAN_SCANNING, BENCH_BOX_SCAN_FINISHING,
     BENCH_BOX_SCAN_ERRED, BENCH_BOX_FEEDER_UNLOADED, BENCH_BOX_FEEDER_LOADED, BENCH_BOX_FEEDER_BUSY,

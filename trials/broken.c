@@ -47,6 +47,9 @@
     X(null_input)         /* a NULL input is answered by nothing */                                                    \
     X(null_reply)         /* a NULL reply is read */                                                                   \
     X(loose_sound)        /* quiet may be as much as granted */                                                        \
+    X(later_version)      /* a record of version 2 is taken for one of version 1 */                                    \
+    X(short_version)      /* only 32 bits of the version are read */                                                   \
+    X(asked_version)      /* what is no record tells its version */                                                    \
     X(fresh_keeps)        /* fresh keeps the tray */                                                                   \
     X(load_713)           /* Load's 713 leaves the feeder as it was */                                                 \
     X(aborts)             /* the program aborts at SideCount 999 */                                                    \
@@ -68,6 +71,7 @@ static const char *const names[] = {
 
 /* The words stand in the order of the questions. */
 enum {
+    VERSION = BENCH_BOX_VERSION,
     FEEDER = BENCH_BOX_FEEDER_STATE,
     JOB = BENCH_BOX_JOB,
     GRANTED = BENCH_BOX_GRANTED,
@@ -127,11 +131,15 @@ static void spoil_box(bench_box *box)
     }
 }
 
-/* Quiet as much as granted is sound for this one. */
+/* Some take for sound what is not. */
 static void loosen(bench_box *box)
 {
-    if (wrong() == loose_sound && box->words[GRANTED] > 5 && box->words[QUIET] == box->words[GRANTED]) {
-        box->words[QUIET]--;
+    uint64_t *words = box->words;
+    if (wrong() == loose_sound && words[GRANTED] > 5 && words[QUIET] == words[GRANTED]) {
+        words[QUIET]--;
+    } else if ((wrong() == later_version && words[VERSION] == BENCH_BOX_VERSION_NUMBER + 1) ||
+               (wrong() == short_version && (uint32_t)words[VERSION] == BENCH_BOX_VERSION_NUMBER)) {
+        words[VERSION] = BENCH_BOX_VERSION_NUMBER;
     }
 }
 
@@ -325,6 +333,9 @@ uint64_t broken_ask(const bench_box *box, size_t ring_length, size_t question)
     }
     if (wrong() == asked_too_far && question == BENCH_BOX_WORDS && value == BENCH_BOX_NONE) {
         return bench_box_ask(box, ring_length, BENCH_BOX_WORDS - 1);
+    }
+    if (wrong() == asked_version && question == BENCH_BOX_VERSION) {
+        return box->words[VERSION];
     }
     if (wrong() == asked_high && question == (size_t)1 << 32) {
         return bench_box_ask(box, ring_length, 0);

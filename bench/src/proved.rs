@@ -1,6 +1,7 @@
 //! The proved box through its C interface, include/bench_box.h, with Rust's slices for C's pointers and lengths.
 
-pub const WORDS: usize = 18;
+/// Room for the record, with some to spare: BENCH_BOX_WORDS of the header is not more.
+pub const WORDS: usize = 32;
 
 #[repr(C)]
 #[derive(Clone, Copy, PartialEq, Eq, Debug)]

@@ -1,4 +1,6 @@
 //! The desk: records in, lines out.
+//!
+//! The short entries become a part of whoever calls them, so that a host's own entry around them costs no second call.
 
 use crate::record::Record;
 use crate::rules::{self, Lent, Reason};
@@ -22,6 +24,7 @@ impl Progress {
 }
 
 /// "A second is a Tick": 0, or 604 and nothing changes.
+#[inline(always)]
 pub fn tick(record: &mut Record, ring_length: usize) -> u16 {
     if !record.is_sound(ring_length) {
         return Reason::Unsound.number();
@@ -34,6 +37,7 @@ pub fn tick(record: &mut Record, ring_length: usize) -> u16 {
 ///
 /// Where the front holds no whole record, it is bad. Into a line of less than `LINE_MOST` bytes nothing is answered. A
 /// record that is not sound with the ring is 604, and nothing is done.
+#[inline(always)]
 pub fn perform(
     record: &mut Record,
     ring: &mut [u8],
@@ -52,13 +56,14 @@ pub fn perform(
         return (0, Progress { read: 0, written: put_bad(line, offset), ended: true });
     };
     let mut lent = Lent { record, ring, reply };
-    let answer = rules::call_sound(&mut lent, kind, payload);
+    let answer = rules::call(&mut lent, kind, payload);
     let written = put_line(line, kind, answer, &lent);
     (rules::number(answer), Progress { read: next, written, ended: false })
 }
 
 /// Answers the records of a window of the input one after the other and puts their lines, as many as are whole and as
-/// have room. The reply of a fetch is the desk's own.
+/// have room. The reply of a fetch is the desk's own. No call leaves a record that is not sound, so one test at the
+/// window's beginning is a test for each of its records.
 ///
 /// The offset is the window's place in the whole input. A cut record waits for more input unless this window is the
 /// last one. The result is 0; or 604, and nothing is done.

@@ -12,7 +12,7 @@ mod text;
 mod wire;
 
 pub use desk::{perform, serve, tick, Progress};
-pub use record::{FailureCode, FeederState, Granted, Record, ScanState, NAMES, RING_MOST, WORDS};
+pub use record::{FailureCode, FeederState, Granted, Record, ScanState, NAMES, RING_MOST, VERSION, WORDS};
 pub use rules::Reason;
 pub use text::LINE_MOST;
 pub use wire::{kind, read, write, Field, Listed, Reading, KINDS, LISTED};

@@ -1,24 +1,28 @@
 //! The box record and when it is sound.
 
 /// How many words a record is told in.
-pub const WORDS: usize = 18;
+pub const WORDS: usize = 19;
+
+/// What the first word is: words with another number there are no record.
+pub const VERSION: u64 = 1;
 
 /// The fields by their places in the words.
 pub const NAMES: [&str; WORDS] = [
+    "version",
     "scan state",
     "scan FailureCode",
-    "feeder state",
-    "feeder FailureCode",
     "job",
     "last job",
-    "UseFeeder",
-    "Append",
     "granted",
     "quiet",
-    "SideCount",
-    "SideNumber",
-    "DestinationID",
     "stop asked",
+    "SideNumber",
+    "SideCount",
+    "DestinationID",
+    "UseFeeder",
+    "Append",
+    "feeder state",
+    "feeder FailureCode",
     "tray",
     "path",
     "start",
@@ -147,47 +151,51 @@ impl Record {
         }
     }
 
-    /// The record that the words tell, sound or not. None where a word does not fit its field.
+    /// The record that the words tell, sound or not. None where the version is another, or a word does not fit its field.
     pub fn from_words(words: &[u64; WORDS]) -> Option<Record> {
+        if words[0] != VERSION {
+            return None;
+        }
         Some(Record {
-            scan: scan_state(words[0])?,
-            scan_failure: failure_code(words[1])?,
-            feeder: feeder_state(words[2])?,
-            feeder_failure: failure_code(words[3])?,
-            job: words[4].try_into().ok()?,
-            last_job: words[5].try_into().ok()?,
-            use_feeder: words[6].try_into().ok()?,
-            append: words[7].try_into().ok()?,
-            granted: Granted(words[8].try_into().ok()?),
-            quiet: words[9].try_into().ok()?,
-            side_count: u32::try_from(words[10]).ok()? as i32,
-            side_number: words[11].try_into().ok()?,
-            destination: words[12].try_into().ok()?,
-            stop_asked: words[13].try_into().ok()?,
-            tray: words[14].try_into().ok()?,
-            path: words[15].try_into().ok()?,
-            start: words[16],
-            stored: words[17],
+            scan: scan_state(words[1])?,
+            scan_failure: failure_code(words[2])?,
+            job: words[3].try_into().ok()?,
+            last_job: words[4].try_into().ok()?,
+            granted: Granted(words[5].try_into().ok()?),
+            quiet: words[6].try_into().ok()?,
+            stop_asked: words[7].try_into().ok()?,
+            side_number: words[8].try_into().ok()?,
+            side_count: u32::try_from(words[9]).ok()? as i32,
+            destination: words[10].try_into().ok()?,
+            use_feeder: words[11].try_into().ok()?,
+            append: words[12].try_into().ok()?,
+            feeder: feeder_state(words[13])?,
+            feeder_failure: failure_code(words[14])?,
+            tray: words[15].try_into().ok()?,
+            path: words[16].try_into().ok()?,
+            start: words[17],
+            stored: words[18],
         })
     }
 
     /// The record in words. SideCount is in two's complement of 32 bits.
     pub fn to_words(&self) -> [u64; WORDS] {
         [
+            VERSION,
             self.scan as u64,
             self.scan_failure as u64,
-            self.feeder as u64,
-            self.feeder_failure as u64,
             self.job.into(),
             self.last_job.into(),
-            self.use_feeder.into(),
-            self.append.into(),
             self.granted.0.into(),
             self.quiet.into(),
-            (self.side_count as u32).into(),
-            self.side_number.into(),
-            self.destination.into(),
             self.stop_asked.into(),
+            self.side_number.into(),
+            (self.side_count as u32).into(),
+            self.destination.into(),
+            self.use_feeder.into(),
+            self.append.into(),
+            self.feeder as u64,
+            self.feeder_failure as u64,
             self.tray.into(),
             self.path.into(),
             self.start,

@@ -1,6 +1,6 @@
 //! The calls and reports.
 //!
-//! `call` tests 604; behind it a record is sound with the ring. The calls stand out of line, so that the dispatch that
+//! Who calls has tested 604: here a record is sound with the ring. The calls stand out of line, so that the dispatch that
 //! every desk record goes through stays short.
 
 use crate::record::{
@@ -80,18 +80,9 @@ pub(crate) fn number(answer: Answer) -> u16 {
 /// Acceptance of a call with nothing to tell.
 const DONE: Answer = Ok(Extra::Nothing);
 
-/// One desk record: 604 is tested first.
+/// One desk record against a box record that is sound with the ring. What it leaves is sound too.
 #[inline(always)]
 pub(crate) fn call(lent: &mut Lent, kind: u8, payload: &[u8]) -> Answer {
-    if !lent.record.is_sound(lent.ring.len()) {
-        return Err(Reason::Unsound);
-    }
-    call_sound(lent, kind, payload)
-}
-
-/// One desk record against a box record that is sound with the ring.
-#[inline]
-pub(crate) fn call_sound(lent: &mut Lent, kind: u8, payload: &[u8]) -> Answer {
     let record = &mut *lent.record;
     match (kind, payload) {
         (kind::START_SCAN, &[use_feeder, c1, c0, append, t1, t0]) => {
@@ -459,8 +450,8 @@ fn is_destination(record: &Record, name: &[u8]) -> bool {
     if record.append == 0 {
         return after == b".jpg";
     }
-    match after {
-        [side @ .., b'.', b'j', b'p', b'g'] if side.len() == 3 => digits_say(side, u32::from(record.side_number)),
+    match after.split_first_chunk::<3>() {
+        Some((side, b".jpg")) => digits_say(side, u32::from(record.side_number)),
         _ => false,
     }
 }

@@ -79,7 +79,7 @@ const fn three_digits(number: u32) -> [u8; 4] {
 
 /// Puts the line of an answered record and gives its length: "kind, number, scan state, feeder state, job, SideNumber,
 /// SideCount, extra". The bytes of a fetch stand in the reply.
-#[inline]
+#[inline(always)]
 pub(crate) fn put_line(line: &mut [u8; LINE_MOST], kind: u8, answer: Answer, lent: &Lent) -> usize {
     let record = &*lent.record;
     let mut text = Text { line, length: 0 };

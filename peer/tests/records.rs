@@ -6,32 +6,33 @@ mod common;
 use common::*;
 use peer::{
     kind, read, serve, write, FeederState, Granted, Reading, Reason, Record, ScanState, DESK_REPLY, KINDS, LINE_MOST,
-    WORDS,
+    VERSION, WORDS,
 };
 
 #[test]
 fn fresh_in_words() {
-    assert_eq!(Record::fresh().to_words(), [0, 0, 0, 0, 0, 0, 1, 1, 60, 0, 0, 1, 0, 0, 0, 0, 0, 0]);
+    assert_eq!(Record::fresh().to_words(), [1, 0, 0, 0, 0, 60, 0, 0, 1, 0, 0, 1, 1, 0, 0, 0, 0, 0, 0]);
     assert!(Record::fresh().is_sound(1));
 }
 
 #[test]
 fn words_round_trip_and_fit() {
     const MOST: [u64; WORDS] = [
+        VERSION,
         4,
         2,
+        u32::MAX as u64,
+        u32::MAX as u64,
+        65_535,
+        65_535,
+        255,
+        65_535,
+        u32::MAX as u64,
+        u32::MAX as u64,
+        255,
+        255,
         3,
         2,
-        u32::MAX as u64,
-        u32::MAX as u64,
-        255,
-        255,
-        65_535,
-        65_535,
-        u32::MAX as u64,
-        65_535,
-        u32::MAX as u64,
-        255,
         255,
         255,
         u64::MAX,
@@ -39,9 +40,10 @@ fn words_round_trip_and_fit() {
     ];
     let mut dice = Dice::new(1);
     for _ in 0..20_000 {
-        let words: [u64; WORDS] = std::array::from_fn(|at| match MOST[at] {
-            u64::MAX => dice.next(),
-            most => dice.below(most + 1),
+        let words: [u64; WORDS] = std::array::from_fn(|at| match (at, MOST[at]) {
+            (0, version) => version,
+            (_, u64::MAX) => dice.next(),
+            (_, most) => dice.below(most + 1),
         });
         assert_eq!(Record::from_words(&words).unwrap().to_words(), words);
     }
@@ -52,8 +54,18 @@ fn words_round_trip_and_fit() {
             let mut words = MOST;
             words[at] = too_much;
             // The last two words are any number.
-            assert_eq!(Record::from_words(&words).is_some(), at >= 16);
+            assert_eq!(Record::from_words(&words).is_some(), at >= 17);
         }
+    }
+}
+
+#[test]
+fn one_version() {
+    let mut dice = Dice::new(3);
+    let mut words = Record::fresh().to_words();
+    for version in [0, 2, 3, 1 << 8, 1 << 32, u64::MAX].into_iter().chain((0..1000).map(|_| dice.next())) {
+        words[0] = version;
+        assert_eq!(Record::from_words(&words).is_some(), version == VERSION, "{version}");
     }
 }
 
@@ -101,20 +113,21 @@ fn soundness_as_told() {
         let idle = round % 4 == 0;
         let job = if idle { 0 } else { dice.one_of(&[1, 1, 1, 0, 7]) };
         let mut words = [
+            VERSION,
             if idle { 0 } else { dice.below(5) },
-            dice.below(3),
-            dice.below(4),
             dice.below(3),
             job,
             dice.one_of(&[job, job, job, 1]),
-            dice.below(2),
-            dice.below(2),
             dice.one_of(&[5, 60, 300, 301, 600]),
             dice.one_of(&[0, 0, 4, 59]),
-            dice.one_of(&[0, 1, u64::from(u32::MAX), 2, 999]),
+            dice.below(2),
             dice.one_of(&[1, 1, 0, 999]),
+            dice.one_of(&[0, 1, u64::from(u32::MAX), 2, 999]),
             dice.below(1 << 32),
             dice.below(2),
+            dice.below(2),
+            dice.below(4),
+            dice.below(3),
             dice.below(2),
             dice.below(2),
             dice.one_of(&[0, 0, 7]),
@@ -122,13 +135,13 @@ fn soundness_as_told() {
         ];
         // Now and then a value on the other side of a line.
         match dice.below(24) {
-            0 => words[8] = dice.one_of(&[0, 4, 5, 600, 601, 7000]),
-            1 => words[9] = dice.one_of(&[4, 5, 59, 60, 61, 299, 300, 599, 600]),
-            2 => words[10] = dice.one_of(&[u64::from(u32::MAX) - 1, 1000, 5000, 1 << 31, (1 << 31) - 1]),
-            3 => words[11] = dice.one_of(&[2, 998, 1000, 65_535]),
-            4 => words[dice.one_of(&[6, 7, 13, 14, 15])] = dice.one_of(&[2, 3, 128, 200, 255]),
-            5 => words[16] = dice.one_of(&[8, 9, u64::MAX]),
-            6 => words[17] = dice.one_of(&[9, 65_536, u64::MAX]),
+            0 => words[5] = dice.one_of(&[0, 4, 5, 600, 601, 7000]),
+            1 => words[6] = dice.one_of(&[4, 5, 59, 60, 61, 299, 300, 599, 600]),
+            2 => words[8] = dice.one_of(&[2, 998, 1000, 65_535]),
+            3 => words[9] = dice.one_of(&[u64::from(u32::MAX) - 1, 1000, 5000, 1 << 31, (1 << 31) - 1]),
+            4 => words[dice.one_of(&[7, 11, 12, 15, 16])] = dice.one_of(&[2, 3, 128, 200, 255]),
+            5 => words[17] = dice.one_of(&[8, 9, u64::MAX]),
+            6 => words[18] = dice.one_of(&[9, 65_536, u64::MAX]),
             _ => {}
         }
         let ring_length = dice.one_of(&[8, 8, 8, 8, 0, 1, 65_536, 65_537]);

@@ -167,20 +167,18 @@ fn assert_records(mut bench: Bench, input: &[u8], right: &str) {
     assert_eq!(lines.collect::<Vec<_>>(), if place < input.len() { vec![&bad[..]] } else { vec![] });
 }
 
-/// With a record that is not sound nothing is done; the desk's line for each of its records is 604 and tells it as it was.
+/// With a record that is not sound nothing is done, whichever record comes: the number, and how much is read and written.
 fn assert_unsound(mut bench: Bench, input: &[u8], right: &str) {
     let Bench { record: before, ring, .. } = bench.clone();
     let nothing = (604, Progress { read: 0, written: 0, ended: false });
     let mut place = 0;
-    let mut lines = String::new();
-    while let Reading::Record { kind, next, .. } = read(input, place) {
+    while let Reading::Record { next, .. } = read(input, place) {
         let (record, mut line) = (&input[place..next], [0; LINE_MOST]);
         assert_eq!(serve(&mut bench.record, &mut bench.ring, record, 0, true, &mut line), nothing);
         assert_eq!(perform(&mut bench.record, &mut bench.ring, &mut bench.reply, record, 0, &mut line), nothing);
-        lines += &format!("{kind:02X} 604 I U 0 {} 0 -\n", before.side_number);
         place = next;
     }
-    assert_eq!((bench.record, bench.ring, &lines[..]), (before, ring, right));
+    assert_eq!((bench.record, bench.ring, right), (before, ring, "604 0 0\n"));
 }
 
 /// The cases that the box is held to.

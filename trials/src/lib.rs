@@ -4,9 +4,9 @@
 //! guide makes its payloads from the fields and the tally demands each of its numbers; how often it comes in a state is
 //! `likely` in guide.rs. A new field of a payload has its values in guide.rs, `value`.
 //!
-//! A new field of the record stands in peer/src/record.rs: in `Record`, in its words and in `NAMES`. What it holds in a
-//! sound record that cases begin with is `draft` in start.rs. The header's new names go to `layout` in box.c, in the order
-//! of `header` in wire.rs, which has kinds and fields from the peer.
+//! A new field of the record stands in peer/src/record.rs: in `Record`, in its words and in `NAMES`; the words have another
+//! `VERSION` then. What it holds in a sound record that cases begin with is `draft` in start.rs. The header's new names go
+//! to `layout` in box.c, in the order of `header` in wire.rs, which has kinds and fields from the peer.
 
 #![forbid(unsafe_code)]
 

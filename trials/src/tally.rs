@@ -12,6 +12,8 @@ pub struct Tally {
     numbers: BTreeMap<(u8, u16), u64>,
     states: BTreeMap<(u8, u8), u64>,
     pub bad: u64,
+    /// Records that are sound but for their version, by it.
+    versions: [u64; VERSIONS.len()],
     marks: [u64; MARKS.len()],
 }
 
@@ -37,6 +39,12 @@ impl Tally {
         }
     }
 
+    /// Notes the version of a record that is else sound.
+    pub fn note_version(&mut self, version: u64) {
+        let wide = (version > u32::MAX.into()) as usize;
+        self.versions[version.min(3) as usize + wide] += 1;
+    }
+
     /// Notes a record of a stream that is accepted.
     pub fn note_passed(&mut self, passed: &Passed) {
         for (count, (_, passes)) in self.marks.iter_mut().zip(MARKS) {
@@ -54,6 +62,9 @@ impl Tally {
             println!("  state {} {}: {count}", scan as char, feeder as char);
         }
         println!("  bad: {}", self.bad);
+        for (count, name) in self.versions.iter().zip(VERSIONS) {
+            println!("  {name}: {count}");
+        }
         for (count, (name, _)) in self.marks.iter().zip(MARKS).filter(|_| marks) {
             println!("  {name}: {count}");
         }
@@ -75,8 +86,9 @@ impl Tally {
         if self.bad == 0 {
             faults.push("never reached: bad".to_string());
         }
-        let missed = self.marks.iter().zip(MARKS).filter(|(&count, _)| marks && count == 0);
-        faults.extend(missed.map(|(_, (name, _))| format!("never reached: {name}")));
+        let marks = self.marks.iter().zip(MARKS.map(|(name, _)| name)).filter(|_| marks);
+        let missed = self.versions.iter().zip(VERSIONS).chain(marks).filter(|(&count, _)| count == 0);
+        faults.extend(missed.map(|(_, name)| format!("never reached: {name}")));
         faults
     }
 }
@@ -87,6 +99,9 @@ fn misses<K: Ord>(reached: &BTreeMap<K, u64>, possible: &[K], tell: impl Fn(&K) 
     let missed = missed.map(|key| format!("never reached: {}", tell(key)));
     missed.chain(strange.map(|key| format!("not in the paper: {}", tell(key)))).collect()
 }
+
+/// The right version, those beside it, and others.
+const VERSIONS: [&str; 5] = ["version 0", "version 1", "version 2", "another version", "a version beyond 32 bits"];
 
 /// A record of a stream that is accepted, and the box before and behind it.
 pub struct Passed<'a> {

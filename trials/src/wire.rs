@@ -4,7 +4,7 @@
 
 use crate::case::Call;
 use crate::tally::NUMBERS;
-use peer::{DESK_REPLY, KINDS, LINE_MOST, NAMES, RING_MOST, WORDS};
+use peer::{DESK_REPLY, KINDS, LINE_MOST, NAMES, RING_MOST, VERSION, WORDS};
 use std::fmt::{Display, Formatter, Write};
 
 /// The box record in words, as include/bench_box.h numbers them.
@@ -225,6 +225,7 @@ pub const NONE: u64 = u64::MAX;
 pub fn header() -> Vec<(String, u64)> {
     let size = 8 * WORDS as u64;
     let first = [
+        ("BENCH_BOX_VERSION_NUMBER", VERSION),
         ("BENCH_BOX_WORDS", WORDS as u64),
         ("BENCH_BOX_SIZE", size),
         ("BENCH_BOX_ALIGN", 8),

@@ -3,19 +3,19 @@
 ghost use mathlib.Core.Path.{_≡_};
 ghost use Prim.Native.Nat.{_+_, _≤_};
 ghost use lib.ListN.{length};
-use desk_stream::Served;
+use desk_stream::Came;
 use libc::EPIPE;
 use libc::STDIN_FILENO;
 use libc::STDOUT_FILENO;
 use rules::Record;
+use stored::WORDS;
 
 // The ring's length.
 const RING: usize = 4096;
 
-// Where the program stands: the record; `held` bytes at the front of the window, of which those before `at` are answered, and the
-// offset in the input of the byte at `at`; whether the input has ended, whether the window wants more of it, whether all is said.
+// Where the program stands: `held` bytes at the front of the window, of which those before `at` are answered, and the offset in the
+// input of the byte at `at`; whether the input has ended, whether the window wants more of it, whether all is said.
 struct Flow {
-    next: Record,
     at: usize,
     held: usize,
     base: u64,
@@ -61,11 +61,9 @@ fn refill(buf: &mut [u8], f: Flow) -> Flow
     ensures { λ r. ⌜ r .at ≤ r .held ⌝ }
     ensures { λ r. ⌜ r .held ≤ length (now (buf .exit)) ⌝ }
 {
-    let next = f.next;
     let kept = desk_stream::keep(buf, f.at, f.held);
     let got = read_behind(buf, kept);
     Flow {
-        next,
         at: 0,
         held: got.held,
         base: f.base,
@@ -88,37 +86,35 @@ fn say(out: &[u8], filled: usize) -> bool
     false
 }
 
-fn moved(f: Flow, served: Served, is_written: bool, is_dry: bool) -> Flow
-    requires { ⌜ f .at + served .at ≤ f .held ⌝ }
+// A window that is refused ends the program too; with the box that `main` makes there is none.
+fn moved(f: Flow, came: Came, is_written: bool, is_dry: bool) -> Flow
+    requires { ⌜ f .at + came .read ≤ f .held ⌝ }
     ensures { λ r. ⌜ r .at ≤ r .held ⌝ }
     ensures { λ r. ⌜ r .held ≡ f .held ⌝ }
 {
-    let next = served.next;
     Flow {
-        next,
-        at: f.at + served.at,
+        at: f.at + came.read,
         held: f.held,
-        base: std::num::wrapping_add_u64(f.base, served.at as u64),
+        base: std::num::wrapping_add_u64(f.base, came.read as u64),
         last: f.last,
         dry: is_dry,
-        over: served.ended | !is_written | f.last & is_dry,
+        over: came.ended | (came.number > 0) | !is_written | f.last & is_dry,
     }
 }
 
 // Answers what the window holds, as far as the lines have room, and writes them out.
-fn answer(window: &[u8], ring: &mut [u8], out: &mut [u8], f: Flow) -> Flow
+fn answer(w: &mut [u64; WORDS], window: &[u8], ring: &mut [u8], out: &mut [u8], f: Flow) -> Flow
     requires { ⌜ f .at + length (now window) ≤ f .held ⌝ }
     ensures { λ r. ⌜ r .at ≤ r .held ⌝ }
     ensures { λ r. ⌜ r .held ≡ f .held ⌝ }
 {
-    let next = f.next;
-    let served = desk_stream::serve(next, ring, window, f.base, f.last, out);
-    let is_written = say(out, served.filled);
-    let is_dry = desk_stream::has_room(served.filled, out.len());
-    moved(f, served, is_written, is_dry)
+    let came = desk_stream::serve(w, ring, window, f.base, f.last, out);
+    let is_written = say(out, came.written);
+    let is_dry = desk_line::has_room(came.written, out.len());
+    moved(f, came, is_written, is_dry)
 }
 
-fn turn(buf: &mut [u8], ring: &mut [u8], out: &mut [u8], f: Flow) -> Flow
+fn turn(w: &mut [u64; WORDS], buf: &mut [u8], ring: &mut [u8], out: &mut [u8], f: Flow) -> Flow
     requires { ⌜ f .at ≤ f .held ⌝ }
     requires { ⌜ f .held ≤ length (now buf) ⌝ }
     ensures { λ r. ⌜ r .at ≤ r .held ⌝ }
@@ -129,13 +125,11 @@ fn turn(buf: &mut [u8], ring: &mut [u8], out: &mut [u8], f: Flow) -> Flow
     }
     let at = f.at;
     let held = f.held;
-    answer(&buf[at..held], ring, out, f)
+    answer(w, &buf[at..held], ring, out, f)
 }
 
-fn pump(buf: &mut [u8], ring: &mut [u8], out: &mut [u8]) {
-    let next = Record::fresh();
+fn pump(w: &mut [u64; WORDS], buf: &mut [u8], ring: &mut [u8], out: &mut [u8]) {
     let mut f = Flow {
-        next,
         at: 0,
         held: 0,
         base: 0,
@@ -145,7 +139,7 @@ fn pump(buf: &mut [u8], ring: &mut [u8], out: &mut [u8]) {
     };
     let mut turns = u64::MAX;
     while turns > 0 && !f.over {
-        f = turn(buf, ring, out, f);
+        f = turn(w, buf, ring, out, f);
         turns -= 1;
     }
 }
@@ -154,5 +148,7 @@ fn main() {
     let mut buf = io::large_buffer();
     let mut out = io::large_buffer();
     let mut ring = [0u8; RING];
-    pump(&mut buf, &mut ring, &mut out);
+    let mut words = [0u64; WORDS];
+    stored::keep(&mut words, Record::fresh());
+    pump(&mut words, &mut buf, &mut ring, &mut out);
 }

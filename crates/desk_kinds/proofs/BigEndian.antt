@@ -27,24 +27,19 @@ byte-there s i = let e : i + 0 ≡ i = omega arith in rw (getD-drop i s 0 0, e) 
 pub byte-missing : (s : List ℕ) (i : ℕ) → length s ≤ i → 0 ≡ byteAt s i
 byte-missing s i h = sym (List·getD-eq-default s 0 h) ∙ byte-there s i
 
--- past the end
-pub word-missing : (s : List ℕ) (i : ℕ) → length s ≤ i → 0 ≡ wordAt s i
-unfolding bigEndian
-word-missing s i h = rw (drop-of-length-le s h)
-
 pub long-missing : (s : List ℕ) (i : ℕ) → length s ≤ i → 0 ≡ longAt s i
 unfolding bigEndian
 long-missing s i h = rw (drop-of-length-le s h)
 
 -- two numbers of one width, one behind the other
-module _ (s : List ℕ) (i x y : ℕ) where
-  joined : (w : ℕ) → x ≡ bigEndian w (drop i s) → y ≡ bigEndian w (drop (i + w) s) → x * 256 ^ w + y ≡ bigEndian (w + w) (drop i s)
-  joined w e f = rw (e, f, ← (drop-drop w i s)) (number-joined w w (drop i s))
+module _ (s : List ℕ) (i r x y : ℕ) where
+  joined : (w : ℕ) → r ≡ x * 256 ^ w + y → x ≡ bigEndian w (drop i s) → y ≡ bigEndian w (drop (i + w) s) → r ≡ bigEndian (w + w) (drop i s)
+  joined w d e f = rw (d, e, f, ← (drop-drop w i s)) (number-joined w w (drop i s))
 
-  pub two : x ≡ byteAt s i → y ≡ byteAt s (i + 1) → x * 256 + y ≡ wordAt s i
+  pub two : r ≡ x * 256 + y → x ≡ byteAt s i → y ≡ byteAt s (i + 1) → r ≡ wordAt s i
   two = joined 1
 
-  pub four : x ≡ wordAt s i → y ≡ wordAt s (i + 2) → x * 65536 + y ≡ longAt s i
+  pub four : r ≡ x * 65536 + y → x ≡ wordAt s i → y ≡ wordAt s (i + 2) → r ≡ longAt s i
   four = joined 2
 
 -- SideCount's two's complement

@@ -1,5 +1,7 @@
 // Numbers big-endian, at a place of any bytes. A byte that is not there counts as 0.
 ghost use mathlib.Core.Path.{_≡_};
+ghost use Prim.Native.Nat.{_+_, _-_, _*_};
+ghost use lib.ListN.{length};
 ghost use Rattle.desk_kinds.specs.Numbers.{byteAt, wordAt, longAt};
 
 pub fn byte_at(s: &[u8], i: usize) -> u8
@@ -11,24 +13,45 @@ pub fn byte_at(s: &[u8], i: usize) -> u8
     0
 }
 
+// How many bytes there are from a place on.
+fn left(s: &[u8], i: usize) -> usize
+    ensures { λ n. ⌜ n ≡ length (now (s .entry)) - i ⌝ }
+{
+    if s.len() <= i { 0 } else { s.len() - i }
+}
+
+fn word(high: u8, low: u8) -> u16
+    ensures { λ r. ⌜ r ≡ high * 256 + low ⌝ }
+{
+    (high as u16) * 256 + low as u16
+}
+
+fn long(high: u16, low: u16) -> u32
+    ensures { λ r. ⌜ r ≡ high * 65536 + low ⌝ }
+{
+    (high as u32) * 65536 + low as u32
+}
+
+// All bytes are there in the usual case, which takes one test.
 pub fn word_at(s: &[u8], i: usize) -> u16
     ensures { λ r. ⌜ r ≡ wordAt (now (s .entry)) i ⌝ }
 {
-    if s.len() <= i {
-        return 0;
+    if 2 <= left(s, i) {
+        return word(s[i], s[i + 1]);
     }
-    let high = byte_at(s, i);
-    let low = byte_at(s, i + 1);
-    (high as u16) * 256 + low as u16
+    word(byte_at(s, i), 0)
 }
 
 pub fn long_at(s: &[u8], i: usize) -> u32
     ensures { λ r. ⌜ r ≡ longAt (now (s .entry)) i ⌝ }
 {
-    if s.len() <= i {
+    let n = left(s, i);
+    if 4 <= n {
+        let j = i + 2;
+        return long(word(s[i], s[i + 1]), word(s[j], s[j + 1]));
+    }
+    if n == 0 {
         return 0;
     }
-    let high = word_at(s, i);
-    let low = word_at(s, i + 2);
-    (high as u32) * 65536 + low as u32
+    long(word_at(s, i), word_at(s, i + 2))
 }

@@ -21,6 +21,7 @@ use Rattle.rules.proofs.RingLaws.{length-queue}
 use Rattle.name.specs.Spelled.{nameRoom}
 use Rattle.desk_text.specs.Digits.{decimal, mostDigits, hexByte}
 use Rattle.desk_text.proofs.Putting.{length-digits, length-hexes}
+use Rattle.desk_line.specs.Room.{countRoom, failureRoom, pictureBytes, extraRoom}
 use Rattle.desk_line.specs.Line.{scanLetter, feedLetter, countText, failureText, lastText, extraOf, lineOf, lineFor, lineRoom}
 
 -- values that a box with a reply of 259 bytes reports
@@ -28,7 +29,7 @@ abbrev pub short : Values → Type 0
 short nothing = Unit
 short (time seconds) = Unit
 short (destination n id) = length n ≤ nameRoom
-short (picture k last bytes) = length bytes ≤ 255
+short (picture k last bytes) = length bytes ≤ pictureBytes
 short (state s failure) = Unit
 short (sides number count long) = Unit
 short (feeding f tray failure) = Unit
@@ -39,7 +40,7 @@ short (stored k) = Unit
 length-decimal : (n : ℕ) → length (decimal n) ≤ mostDigits
 length-decimal n = length-digits mostDigits n
 
-length-failure : (f : Failure) → length (failureText f) ≤ 7
+length-failure : (f : Failure) → length (failureText f) ≤ failureRoom
 length-failure Failure.None = omega arith
 length-failure Failure.Jammed = omega arith
 length-failure Failure.Timeout = omega arith
@@ -48,11 +49,11 @@ length-last : (last : Bool) → length (lastText last) ≤ 1
 length-last true = omega arith
 length-last false = omega arith
 
-length-count : (c : ℕ) → length (countText c) ≤ 21
+length-count : (c : ℕ) → length (countText c) ≤ countRoom
 length-count c =
-    choice (λ (l : List ℕ). length l ≤ 21) (ltb c negatives) (λ _. omega (arith, length-decimal c)) (λ _. omega (arith, length-decimal (4294967296 - c)))
+    choice (λ (l : List ℕ). length l ≤ countRoom) (ltb c negatives) (λ _. omega (arith, length-decimal c)) (λ _. omega (arith, length-decimal (4294967296 - c)))
 
-length-extra : (v : Values) → short v → length (extraOf v) ≤ 532
+length-extra : (v : Values) → short v → length (extraOf v) ≤ extraRoom
 length-extra nothing h = omega arith
 length-extra (time seconds) h = omega (arith, length-decimal seconds)
 length-extra (destination n id) h = simp length-append (omega (arith, length-decimal id))
@@ -64,8 +65,8 @@ length-extra (feeding f tray failure) h = simp length-append (omega (arith, leng
 length-extra (mode m) h = omega arith
 length-extra (stored k) h = omega (arith, length-decimal k)
 
-row-length : (kind number job side count extra : List ℕ) (s f : ℕ) → length kind ≤ 2 → length number ≤ 20 → length job ≤ 20 → length side ≤ 20
-    → length count ≤ 21 → length extra ≤ 532
+row-length : (kind number job side count extra : List ℕ) (s f : ℕ) → length kind ≤ 2 → length number ≤ mostDigits → length job ≤ mostDigits
+    → length side ≤ mostDigits → length count ≤ countRoom → length extra ≤ extraRoom
     → length (kind ++ 32 ∷ (number ++ 32 ∷ s ∷ 32 ∷ f ∷ 32 ∷ (job ++ 32 ∷ (side ++ 32 ∷ (count ++ 32 ∷ (extra ++ 10 ∷ [])))))) ≤ lineRoom
 row-length kind number job side count extra s f a b c d e g = simp length-append (omega arith)
 
@@ -82,7 +83,7 @@ length-ten : (k n : ℕ) → length (digits k n) ≡ k
 length-ten zero n = refl
 length-ten (suc k) n = ap suc (length-ten k n)
 
-length-name : (r : Record) → length (name r) ≤ nameRoom
+pub length-name : (r : Record) → length (name r) ≤ nameRoom
 unfolding name
 length-name r =
     let side : length (cond (on (r .settings .append)) (digits 3 (r .side .number)) []) ≤ 3 =

@@ -1,2 +1,4 @@
+pub mod Setting
 pub mod Lines
 pub mod Bound
+pub mod Room

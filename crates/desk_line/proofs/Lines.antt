@@ -1,9 +1,9 @@
 -- The line's parts in a row are the line.
-use Prim.Native.Nat.{ℕ, _-_, _<_}
-use mathlib.Core.Path.{_≡_, refl, sym, ap, _∙_}
+use Prim.Native.Nat.{ℕ, _-_, _<_, _≤_}
+use mathlib.Core.Path.{_≡_, sym, ap}
 use mathlib.Core.List.{List, [], _∷_, _++_, append-assoc}
 use native.Mathlib.Omega.{arith}
-use lib.ListN.{length, take, drop, length-drop, drop-of-length-le}
+use lib.ListN.{length, take, drop, length-take, length-drop, drop-of-length-le}
 use lib.Seq.{take-nil, take-all}
 use Rattle.rules.specs.declared.Record.{Record}
 use Rattle.rules.specs.Moves.{headed}
@@ -16,6 +16,9 @@ use Rattle.desk_line.specs.Line.{scanLetter, feedLetter, countText, extr
 -- ---- a reply with no room for its head has no picture; the rest of a list is all that is behind
 pub no-picture : (reply : List ℕ) (k : ℕ) → length reply < headed → [] ≡ take k (drop headed reply)
 no-picture reply k h = rw (drop-of-length-le reply {i = headed} (omega arith)) (sym (take-nil k))
+
+pub picture-short : (b reply : List ℕ) (k : ℕ) → b ≡ take k (drop headed reply) → length b ≤ k
+picture-short b reply k e = omega (arith, ap length e, length-take k (drop headed reply))
 
 pub rest : (s : List ℕ) (n k : ℕ) → take k (take (length s - n) (drop n s)) ≡ take k (drop n s)
 rest s n k = ap (take k) (take-all (length s - n) (drop n s) (rw length-drop (omega arith)))

@@ -1,8 +1,8 @@
 -- The line of an outcome: kind, number, scan state, feeder state, job, SideNumber, SideCount, extra.
-use Prim.Native.Nat.{ℕ, _-_}
+use Prim.Native.Nat.{ℕ, _+_, _-_}
 use mathlib.Core.Bool.{Bool, true, false, cond}
 use mathlib.Core.List.{List, [], _∷_, _++_}
-use lib.Dec.{ltb}
+use lib.Dec.{ltb, leb}
 use Rattle.rules.specs.declared.Scan.{Scan}
 use Rattle.rules.specs.declared.Feed.{Feed}
 use Rattle.rules.specs.declared.Failure.{Failure}
@@ -88,3 +88,7 @@ lineFor kind o = lineOf kind (o .number) (o .values) (o .state .box)
 -- no line is longer (`step-bound`)
 abbrev pub lineRoom : ℕ
 lineRoom = 640
+
+-- no line is put into less room than any line may take
+abbrev pub roomed : ℕ → ℕ → List ℕ → List ℕ
+roomed room at t = cond (leb (at + lineRoom) room) t []

@@ -8,7 +8,6 @@ use lib.ListN.{length, take, drop, length-drop}
 use lib.Seq.{drop-drop, length-take-le}
 use Rattle.desk_kinds.specs.Kinds.{limitsOf, within}
 use Rattle.desk_kinds.proofs.Entries.{listed-short}
-use Rattle.desk_records.specs.declared.Fault.{Fault}
 use Rattle.desk_records.specs.declared.Front.{Front}
 use Rattle.desk_records.specs.declared.Reading.{Reading}
 use Rattle.desk_records.specs.Reading.{secondMark, lengthWidth, headOf, front, placed, readWith, readAt, partOf}
@@ -21,19 +20,6 @@ front-listed m w s e = stands e .allowed
 
 pub front-inside : (m w : ℕ) (s : List ℕ) {k n : ℕ} → front m w s ≡ Front.Whole k n → headOf w + n ≤ length s
 front-inside m w s e = stands e .inside
-
--- ---- how the reader's code meets `readWith`
-module _ (m w : ℕ) (s : List ℕ) (at : ℕ) {f : Front} (e : f ≡ front m w (drop at s)) where
-  pub inside : {k n : ℕ} → f ≡ Front.Whole k n → at + headOf w + n ≤ length s
-  inside h = omega (arith, front-inside m w (drop at s) (sym e ∙ h), length-drop at s)
-
-  pub whole-placed : {k n : ℕ} → f ≡ Front.Whole k n → Reading.Record k (at + headOf w) n (at + headOf w + n) ≡ readWith m w s at
-  unfolding readWith placed
-  whole-placed h = ap (placed w at) (sym h ∙ e)
-
-  pub wrong-placed : {fault : Fault} {i : ℕ} → f ≡ Front.Wrong fault i → Reading.Bad at ≡ readWith m w s at
-  unfolding readWith placed
-  wrong-placed h = ap (placed w at) (sym h ∙ e)
 
 -- ---- of what was read at a place
 unplaced : (w at : ℕ) (f : Front) {k start n next : ℕ} → placed w at f ≡ Reading.Record k start n next

@@ -10,18 +10,18 @@ use lib.ListN.{length, take, drop, length-drop, drop-of-length-le}
 use lib.Seq.{take-all}
 use Rattle.rules.proofs.Guards.{then-arm, else-arm, stop, pass, le-then, le-else, eq-then, eq-else}
 use Rattle.desk_kinds.specs.declared.Limits.{Limits}
-use Rattle.desk_kinds.specs.Numbers.{byteAt, wordAt}
+use Rattle.desk_kinds.specs.Numbers.{bigEndian, byteAt, wordAt}
 use Rattle.desk_kinds.specs.Kinds.{isListed, within}
 use Rattle.desk_records.specs.declared.Fault.{Fault}
 use Rattle.desk_records.specs.declared.Front.{Front}
-use Rattle.desk_records.specs.Reading.{lengthAt, headOf, lengthIn, expect, front, partOf}
+use Rattle.desk_records.specs.Reading.{headOf, lengthIn, expect, front, partOf}
 
 -- ---- the length in one byte, and in two
-module _ (s : List ℕ) (w x : ℕ) where
-  pub length-one : w ≡ 1 → x ≡ byteAt s lengthAt → x ≡ lengthIn w s
+module _ (s : List ℕ) (i w x : ℕ) where
+  pub length-one : w ≡ 1 → x ≡ byteAt s i → x ≡ bigEndian w (drop i s)
   length-one e f = rw e f
 
-  pub length-two : (w ≡ 1 → ⊥) → (1 ≤ w) × (w ≤ 2) → x ≡ wordAt s lengthAt → x ≡ lengthIn w s
+  pub length-two : (w ≡ 1 → ⊥) → (1 ≤ w) × (w ≤ 2) → x ≡ wordAt s i → x ≡ bigEndian w (drop i s)
   length-two e b f = let t : w ≡ 2 = omega arith in rw t f
 
 -- ---- what the table was asked for: a kind, and then a length

@@ -3,6 +3,7 @@ pub mod Fronts
 pub mod Heard
 pub mod Numbers
 pub mod OneRecord
+pub mod Placed
 pub mod RoundTrip
 pub mod Settled
 pub mod Stable

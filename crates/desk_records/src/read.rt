@@ -13,19 +13,20 @@ use desk_kinds::table;
 ghost use mathlib.Core.Path.{_≡_};
 ghost use Prim.Native.Nat.{_≤_};
 ghost use lib.ListN.{drop};
+ghost use Rattle.desk_kinds.specs.Numbers.{bigEndian};
 ghost use Rattle.desk_kinds.specs.Kinds.{limitsOf};
-ghost use Rattle.desk_records.specs.Reading.{lengthIn, sized, front, readWith, readAt, cut, cutAt, partOf};
+ghost use Rattle.desk_records.specs.Reading.{sized, front, readWith, readAt, cut, cutAt, partOf};
 ghost use Rattle.desk_records.specs.Hearing.{hearAt};
 
-// The length, in one or two bytes; 0 where they are not there.
-fn length_in(s: &[u8], width: usize) -> usize
+// The length, in one or two bytes at a place; 0 where they are not there.
+fn length_in(s: &[u8], i: usize, width: usize) -> usize
     requires { ⌜ (1 ≤ width) × (width ≤ 2) ⌝ }
-    ensures { λ r. ⌜ r ≡ lengthIn width (now (s .entry)) ⌝ }
+    ensures { λ r. ⌜ r ≡ bigEndian width (drop i (now (s .entry))) ⌝ }
 {
     if width == 1 {
-        return numbers::byte_at(s, LENGTH_AT) as usize;
+        return numbers::byte_at(s, i) as usize;
     }
-    numbers::word_at(s, LENGTH_AT) as usize
+    numbers::word_at(s, i) as usize
 }
 
 // The length and the payload of a kind that the table was asked for.
@@ -37,7 +38,7 @@ fn length_and_payload(s: &[u8], kind: u8, found: Limits, width: usize) -> Front
     if s.len() < LENGTH_AT + width {
         return Front::Wrong(Fault::Cut, s.len());
     }
-    let len = length_in(s, width);
+    let len = length_in(s, LENGTH_AT, width);
     if !table::admits(found, len) {
         return Front::Wrong(Fault::Length, LENGTH_AT);
     }
@@ -85,22 +86,35 @@ fn front_at(s: &[u8], at: usize, mark: u8, width: usize) -> Front
     front_with(&s[at..], mark, width)
 }
 
+// Whether the head is there is asked once, and not byte by byte: which byte is wrong is for `front_at` to tell.
 fn read_with(s: &[u8], at: usize, mark: u8, width: usize) -> Reading
     requires { ⌜ (1 ≤ width) × (width ≤ 2) ⌝ }
     ensures { λ r. ⌜ r ≡ readWith mark width (now (s .entry)) at ⌝ }
 {
-    let found = front_at(s, at, mark, width);
-    match found {
-        Front::Whole(kind, len) => {
-            let start = at + (LENGTH_AT + width);
-            Reading::Record {
-                kind,
-                start,
-                len,
-                next: start + len,
-            }
-        }
-        Front::Wrong(_, _) => Reading::Bad(at),
+    if s.len() <= at {
+        return Reading::Bad(at);
+    }
+    let left = s.len() - at;
+    if left < LENGTH_AT + width {
+        return Reading::Bad(at);
+    }
+    if (s[at] != crate::FIRST_MARK) | (s[at + 1] != mark) {
+        return Reading::Bad(at);
+    }
+    let kind = s[at + KIND_AT];
+    let len = length_in(s, at + LENGTH_AT, width);
+    if !table::admits(table::limits(kind), len) {
+        return Reading::Bad(at);
+    }
+    if left - (LENGTH_AT + width) < len {
+        return Reading::Bad(at);
+    }
+    let start = at + (LENGTH_AT + width);
+    Reading::Record {
+        kind,
+        start,
+        len,
+        next: start + len,
     }
 }
 

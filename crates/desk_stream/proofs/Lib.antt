@@ -2,7 +2,9 @@ pub mod Turns
 pub mod Replies
 pub mod Input
 pub mod Hearing
+pub mod Pieces
 pub mod Windows
 pub mod Serving
+pub mod Boxing
 pub mod Keeping
 pub mod Progress

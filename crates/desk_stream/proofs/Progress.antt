@@ -17,8 +17,8 @@ use Rattle.desk_records.specs.Reading.{firstMark, secondMark, lengthWidth, leng
 use Rattle.desk_kinds.proofs.Entries.{listed-short}
 use Rattle.desk_line.specs.Line.{lineRoom}
 use Rattle.desk_stream.specs.Desk.{Heard, calling, wrong, hears, deskCall}
-use Rattle.desk_stream.specs.Window.{Progress, outset, answered, broken, waits, roomy, served}
-use Rattle.desk_stream.proofs.Turns.{turns, no-room, another, none}
+use Rattle.desk_stream.specs.Window.{waits, Progress, outset, roomy, served}
+use Rattle.desk_stream.proofs.Turns.{answered, broken, turns-on, turns-none, no-room, another, none}
 use Rattle.desk_stream.proofs.Hearing.{fronted, heard-whole}
 
 -- the longest record: its head and 255 bytes
@@ -56,7 +56,7 @@ module _ (base : ℕ) (last : Bool) (room : ℕ) where
   abbrev Grown : List ℕ → Type 0
   Grown w = (skip : ℕ) (p : Progress) → p .place ≤ served base last room skip p w .place
 
-  same-place : (b : Bool) (p : Progress) → p .place ≤ cond b p (broken base last room p) .place
+  same-place : (b : Bool) (p : Progress) → p .place ≤ cond b p (broken base p) .place
   same-place true p = le-refl (p .place)
   same-place false p = le-refl (p .place)
 
@@ -67,8 +67,8 @@ module _ (base : ℕ) (last : Bool) (room : ℕ) where
     by-heard : roomy base last room p ≡ true → (h : Heard) → hears (b ∷ w) ≡ h → p .place ≤ served base last room 0 p (b ∷ w) .place
     by-heard r (calling k q given size) h =
         let p' = answered k (step (p .box) (deskCall q given)) size p in
-        to _ (turns base last room p b w (calling k q given size) r h) (omega (arith, next (size - 1) p'))
-    by-heard r wrong h = to _ (turns base last room p b w wrong r h) (same-place (waits base last room (b ∷ w)) p)
+        to _ (turns-on base last room p b w r k q given size h (heard-whole (b ∷ w) h .some)) (omega (arith, next (size - 1) p'))
+    by-heard r wrong h = to _ (turns-none base last room p b w r h) (same-place (waits last (b ∷ w)) p)
 
     by-room : (r : Bool) → roomy base last room p ≡ r → p .place ≤ served base last room 0 p (b ∷ w) .place
     by-room true r = by-heard r (hears (b ∷ w)) refl
@@ -90,7 +90,7 @@ module _ (base : ℕ) (last : Bool) (room : ℕ) where
     ending : last ≡ true → Enough w
     long : longest ≤ length w → Enough w
 
-  waits-not : (w : List ℕ) → Enough w → waits base last room w ≡ false
+  waits-not : (w : List ℕ) → Enough w → waits last w ≡ false
   waits-not w (ending e) = both (cut (fronted w)) last e
     where
       both : (c l : Bool) → l ≡ true → (c && not l) ≡ false
@@ -113,7 +113,7 @@ module _ (base : ℕ) (last : Bool) (room : ℕ) where
     by-what wrong h =
         over
         (ap (λ (x : Progress). x .ended) (none base last room (outset box) w some room-left h)
-        ∙ ap (λ (b : Bool). cond b (outset box) (broken base last room (outset box)) .ended) (waits-not w e))
+        ∙ ap (λ (b : Bool). cond b (outset box) (broken base (outset box)) .ended) (waits-not w e))
 
     pub never-stuck : Moves (served base last room 0 (outset box) w)
     never-stuck = by-what (hears w) refl

@@ -9,14 +9,23 @@ use Rattle.rules.specs.Calls.{Values, State, Outcome, Guard, refuse, leaving, C
 use Rattle.rules.specs.Calls.{answer, scan, Fetch, lent}
 use Rattle.rules.specs.Machine.{step, refusals, scanRefusals, effect, scanEffect}
 use Rattle.answers.specs.declared.Request.{Request}
+use Rattle.answers.specs.declared.Answer.{Answer}
 use Rattle.answers.specs.declared.After.{After}
 use Rattle.answers.specs.Asked.{asked}
-use Rattle.answers.specs.Told.{numberTold, valuesTold, stateOf, gave}
+use Rattle.answers.specs.Told.{numberTold, valuesTold, stateOf}
 use Rattle.answers.proofs.Lending.{Lending, fetches, lends-none, lending, lent-within, told-beside}
+use Rattle.rules.specs.declared.Record.{Record}
+use Rattle.rules.proofs.Theorems.{step-sound}
+use Rattle.stored.specs.Stored.{kept, allFit, recorded, isBox}
+use Rattle.stored.proofs.Back.{recorded-kept}
+use Rattle.working.specs.Worked.{Works}
+use Rattle.working.proofs.Doing.{box-sound, boxed}
 use Rattle.desk_text.specs.Put.{Puts}
 use Rattle.desk_text.proofs.Putting.{moved}
-use Rattle.desk_line.specs.Line.{lineOf, lineFor}
+use Rattle.desk_line.specs.Line.{lineOf}
 use Rattle.desk_stream.specs.Desk.{replyRoom, callWith, deskCall}
+use Rattle.desk_stream.specs.Window.{answeredBy}
+use Rattle.desk_stream.specs.Held.{Turns}
 
 -- an outcome but for the reply
 pub record Bare : Type 0 where
@@ -53,26 +62,53 @@ same-bare : {n m : ℕ} {v w : Values} {s t : State} → n ≡ m → v ≡ w →
 same-bare a b c = rw (a, b, c)
 
 -- ---- an answer in the program's hands
-module _ (s : State) (q : Request) (given reply after ring : List ℕ) (a : After)
-    (e : gave a ring (lent (asked q given after)) ≡ step s (asked q given reply)) where
-  told : _≡_ {A = Bare} (record { number = numberTold (a .answer); values = valuesTold (a .next) after (a .answer); state = stateOf (a .next) ring })
+module _ (q : Request) (given ws ring reply : List ℕ) {a : Answer} {ws' ring' reply' : List ℕ} (box : isBox ws (length ring) ≡ true)
+    (w : Works q given ws ring reply a ws' ring' reply') where
+  abbrev s : State
+  s = stateOf (recorded ws) ring
+
+  abbrev o : Outcome
+  o = step s (asked q given reply)
+
+  abbrev after : After
+  after = record { next = o .state .box; answer = a }
+
+  told : _≡_ {A = Bare} (record { number = numberTold a; values = valuesTold (o .state .box) reply' a; state = stateOf (o .state .box) ring' })
       (bare (step s (callWith (length reply) q given)))
   told =
-      same-bare (ap (λ (o : Outcome). o .number) e) (told-beside s q given reply after ring a e) (ap (λ (o : Outcome). o .state) e)
+      let e = w .does .told in
+      same-bare (ap (λ (o : Outcome). o .number) e) (told-beside s q given reply reply' ring' after e) (ap (λ (o : Outcome). o .state) e)
       ∙ reply-alike s q given reply (replicate (length reply) 0) (sym (length-replicate (length reply) 0))
 
-  pub answered-state : stateOf (a .next) ring ≡ step s (callWith (length reply) q given) .state
-  answered-state = ap (λ (b : Bare). b .state) told
+  state : stateOf (o .state .box) ring' ≡ step s (callWith (length reply) q given) .state
+  state = ap (λ (b : Bare). b .state) told
 
-  pub answered-line : (kind : ℕ) {number at filled : ℕ} {o o₁ : List ℕ} → number ≡ numberTold (a .answer)
-      → Puts o at (lineOf kind number (valuesTold (a .next) after (a .answer)) (a .next)) filled o₁
-      → Puts o at (lineFor kind (step s (callWith (length reply) q given))) filled o₁
-  answered-line kind f p =
-      moved p (ap (λ (n : ℕ). lineOf kind n (valuesTold (a .next) after (a .answer)) (a .next)) f ∙ ap
-      (λ (b : Bare). lineOf kind (b .number) (b .values) (b .state .box)) told)
+  left : recorded ws' ≡ o .state .box
+  left = ap recorded (w .does .keeps) ∙ recorded-kept (o .state .box)
 
-  pub answered-number : {number : ℕ} → number ≡ numberTold (a .answer) → number ≡ step s (callWith (length reply) q given) .number
-  answered-number f = f ∙ ap (λ (b : Bare). b .number) told
+  still-box : isBox ws' (length ring') ≡ true
+  still-box =
+      boxed ws' (length ring') (w .does .fits)
+      (rw (left, ap (λ (x : Outcome). x .state .bytes) (w .does .told)) (step-sound s (asked q given reply) (box-sound ws (length ring) box)))
+
+  pub answered-turn : (kind : ℕ) {next : Record} {number written filled : ℕ} {out out' : List ℕ} → (allFit ws' ≡ true → next ≡ recorded ws')
+      → number ≡ numberTold a
+      → Puts out filled (lineOf kind number (valuesTold next reply' a) next) written out'
+      → Turns (answeredBy kind (step s (callWith (length reply) q given)) 0) out filled number written false ws' ring' out'
+  answered-turn kind {next} {number} ld f p =
+      let same : next ≡ o .state .box = ld (w .does .fits) ∙ left in
+      record {
+        tells = f ∙ ap (λ (b : Bare). b .number) told;
+        stops = refl;
+        puts =
+            moved p
+            (ap (λ (x : Record). lineOf kind number (valuesTold x reply' a) x) same
+            ∙ ap (λ (n : ℕ). lineOf kind n (valuesTold (o .state .box) reply' a) (o .state .box)) f
+            ∙ ap (λ (b : Bare). lineOf kind (b .number) (b .values) (b .state .box)) told);
+        keeps = w .does .keeps ∙ ap (λ (x : State). kept (x .box)) state;
+        rings = ap (λ (x : State). x .bytes) state;
+        box = still-box;
+      }
 
 pub lent-room : (q : Request) (given : List ℕ) → length (lent (deskCall q given)) ≤ replyRoom
 lent-room q given = omega (arith, lent-within q given (replicate replyRoom 0), length-replicate {A = ℕ} replyRoom 0)

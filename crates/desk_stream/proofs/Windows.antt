@@ -12,9 +12,9 @@ use Rattle.answers.specs.declared.Request.{Request}
 use Rattle.desk_records.specs.Reading.{cut}
 use Rattle.desk_line.specs.Line.{lineFor}
 use Rattle.desk_stream.specs.Desk.{Heard, calling, wrong, hears, deskCall, badLine, badText, ringRoom, deskText}
-use Rattle.desk_stream.specs.Window.{Progress, outset, answered, broken, roomy, served}
+use Rattle.desk_stream.specs.Window.{waits, Progress, outset, roomy, served}
 use Rattle.desk_stream.specs.Runs.{Prints, bad, end, more}
-use Rattle.desk_stream.proofs.Turns.{turns, no-room}
+use Rattle.desk_stream.proofs.Turns.{answered, broken, turns-on, turns-none, no-room}
 use Rattle.desk_stream.proofs.Input.{textFrom, nothing-left, one-more, one-bad}
 use Rattle.desk_stream.proofs.Hearing.{fronted, heard-stable, heard-whole}
 
@@ -89,7 +89,7 @@ module _ (base from : ℕ) (same : base ≡ from % 2 ^ 64) (last : Bool) (room :
               ∙ ap (λ (n : ℕ). (lineFor k o ++ l .more) ++ still q (drop n (here ++ v))) on;
         }
 
-    broke : hears (here ++ v) ≡ wrong → Leads p (broken base last room p) 0 here
+    broke : hears (here ++ v) ≡ wrong → Leads p (broken base p) 0 here
     broke h =
         record {
           more = badText (base + p .place);
@@ -103,7 +103,7 @@ module _ (base from : ℕ) (same : base ≡ from % 2 ^ 64) (last : Bool) (room :
         }
 
     none-heard : hears here ≡ wrong → p .ended ≡ false → (c l : Bool) → cut (fronted here) ≡ c → last ≡ l
-        → Leads p (cond (c && not l) p (broken base last room p)) 0 here
+        → Leads p (cond (c && not l) p (broken base p)) 0 here
     none-heard h e false l f g = broke (heard-stable here v f ∙ h)
     none-heard h e true false f g = stay p 0 here e
     none-heard h e true true f g = broke (ap (λ (t : List ℕ). hears (here ++ t)) (no-more g) ∙ ap hears (append-nil here) ∙ h)
@@ -118,9 +118,9 @@ module _ (base from : ℕ) (same : base ≡ from % 2 ^ 64) (last : Bool) (room :
     by-heard : roomy base last room p ≡ true → (h : Heard) → hears (b ∷ w) ≡ h → Leads p (served base last room 0 p (b ∷ w)) 0 (b ∷ w)
     by-heard r (calling k q given size) h =
         let p' = answered k (step (p .box) (deskCall q given)) size p in
-        to _ (turns base last room p b w (calling k q given size) r h)
-        (heard-one p b w k q given size h (served base last room (size - 1) p' w) (next (size - 1) p' refl))
-    by-heard r wrong h = to _ (turns base last room p b w wrong r h) (none-heard p b w h e (cut (fronted (b ∷ w))) last refl refl)
+        to _ (turns-on base last room p b w r k q given size h (heard-whole (b ∷ w) h .some))
+        (heard-one p b w k q given size h (served base last room (size - 1) p' w) (next (size - 1) p' e))
+    by-heard r wrong h = to _ (turns-none base last room p b w r h) (none-heard p b w h e (cut (fronted (b ∷ w))) last refl refl)
 
     by-room : (r : Bool) → roomy base last room p ≡ r → Leads p (served base last room 0 p (b ∷ w)) 0 (b ∷ w)
     by-room true r = by-heard r (hears (b ∷ w)) refl

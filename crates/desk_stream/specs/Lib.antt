@@ -1,3 +1,5 @@
 pub mod Desk
 pub mod Window
+pub mod Held
+pub mod Boxed
 pub mod Runs

@@ -1,20 +1,57 @@
 -- What the desk makes of one window of its input, into a buffer of so much room.
-use Prim.Native.Nat.{ℕ, zero, suc, _+_, _-_, _≤_}
-use mathlib.Core.Path.{_≡_}
-use mathlib.Core.Bool.{Bool, true, false, not, _&&_, cond}
+use Prim.Native.Nat.{ℕ, zero, suc, _+_, _-_}
+use mathlib.Core.Bool.{Bool, true, false, not, _&&_, _||_, cond}
 use mathlib.Core.List.{List, [], _∷_, _++_}
 use lib.Dec.{leb}
 use lib.ListN.{length, take, drop}
-use Rattle.rules.specs.declared.Record.{Record}
 use Rattle.rules.specs.Calls.{State, Outcome}
 use Rattle.rules.specs.Machine.{step}
-use Rattle.answers.specs.Told.{stateOf}
-use Rattle.desk_text.specs.Put.{overlaid}
+use Rattle.answers.specs.Asked.{asked, replied}
 use Rattle.desk_records.specs.Reading.{secondMark, lengthWidth, front, cut}
 use Rattle.desk_line.specs.Line.{lineFor, lineRoom}
-use Rattle.desk_stream.specs.Desk.{Heard, calling, wrong, hears, deskCall, badText}
+use Rattle.desk_stream.specs.Desk.{Heard, calling, wrong, hears, replyRoom, callWith, badText}
 
--- how far the desk has come: its box, its place in the window, the text, and whether it met a bad record
+-- ---- one record's piece of the input: the number told, the box left, its size, its text, and whether the desk ends with it
+pub record Piece : Type 0 where
+  pub number : ℕ
+  pub box : State
+  pub size : ℕ
+  pub text : List ℕ
+  pub ended : Bool
+
+-- an answered record has its size and its line
+abbrev pub answeredBy : ℕ → Outcome → ℕ → Piece
+answeredBy k o size = record { number = o .number; box = o .state; size = size; text = lineFor k o; ended = false }
+
+-- so has a bad one: nothing of it is passed over, and it ends the desk. `at` is its offset in the input
+abbrev pub brokenAt : ℕ → State → Piece
+brokenAt at box = record { number = 0; box = box; size = 0; text = badText at; ended = true }
+
+-- one that is only cut waits for more input, if more may come
+abbrev pub waitingIn : State → Piece
+waitingIn box = record { number = 0; box = box; size = 0; text = []; ended = false }
+
+abbrev pub waits : Bool → List ℕ → Bool
+waits last s = cut (front secondMark lengthWidth s) && not last
+
+-- where nothing reads
+abbrev pub unheardIn : ℕ → Bool → State → List ℕ → Piece
+unheardIn at last box s = cond (waits last s) (waitingIn box) (brokenAt at box)
+
+-- with a reply of so many bytes
+abbrev pub pieceOf : ℕ → ℕ → Bool → State → List ℕ → Heard → Piece
+pieceOf room at last box s (calling k q given size) = answeredBy k (step box (callWith room q given)) size
+pieceOf room at last box s wrong = unheardIn at last box s
+
+unfoldable pub piece : ℕ → ℕ → Bool → State → List ℕ → Piece
+piece room at last box s = pieceOf room at last box s (hears s)
+
+-- the lent reply as a piece leaves it
+abbrev pub repliedIn : Heard → State → List ℕ → List ℕ
+repliedIn (calling k q given size) box reply = replied (asked q given reply) (step box (asked q given reply)) reply
+repliedIn wrong box reply = reply
+
+-- ---- how far the desk has come: its box, its place in the window, the text, and whether it met a bad record
 pub record Progress : Type 0 where
   pub box : State
   pub place : ℕ
@@ -24,42 +61,29 @@ pub record Progress : Type 0 where
 abbrev pub outset : State → Progress
 outset box = record { box = box; place = 0; text = []; ended = false }
 
--- a record answered
-abbrev pub answered : ℕ → Outcome → ℕ → Progress → Progress
-answered k o size p = record { box = o .state; place = p .place + size; text = p .text ++ lineFor k o; ended = false }
+-- a piece more
+abbrev pub took : Progress → Piece → Progress
+took p t = record { box = t .box; place = p .place + t .size; text = p .text ++ t .text; ended = t .ended || p .ended }
+
+-- one of no size is the last
+abbrev pub onward : ℕ → Progress → (ℕ → Progress → Progress) → Progress
+onward zero p rest = p
+onward (suc skip) p rest = rest skip p
 
 -- for the window's offset in the input, whether the input ends with it, and the room for text
 module _ (base : ℕ) (last : Bool) (room : ℕ) where
-  -- a bad record ends it
-  abbrev pub broken : Progress → Progress
-  broken p = record { box = p .box; place = p .place; text = p .text ++ badText (base + p .place); ended = true }
-
-  -- a record that is only cut waits for more input, if more may come
-  abbrev pub waits : List ℕ → Bool
-  waits s = cut (front secondMark lengthWidth s) && not last
-
-  abbrev pub turned : List ℕ → Progress → Heard → (ℕ → Progress → Progress) → Progress
-  turned s p (calling k q given size) rest = rest (size - 1) (answered k (step (p .box) (deskCall q given)) size p)
-  turned s p wrong rest = cond (waits s) p (broken p)
-
   abbrev pub roomy : Progress → Bool
   roomy p = leb (length (p .text) + lineRoom) room
 
-  -- record after record, while a line has room
+  abbrev pub turned : Progress → Piece → (ℕ → Progress → Progress) → Progress
+  turned p t rest = onward (t .size) (took p t) rest
+
+  -- piece after piece, while a line has room
   unfoldable pub served : ℕ → Progress → List ℕ → Progress
   served skip p [] = p
   served (suc skip) p (b ∷ s) = served skip p s
-  served zero p (b ∷ s) = cond (roomy p) (turned (b ∷ s) p (hears (b ∷ s)) (λ skip q. served skip q s)) p
-
--- a progress as the program holds it: record, ring, place in the window, and the text at the front of the buffer
-pub record Holds (p : Progress) (window out : List ℕ) (next : Record) (ring : List ℕ) (at filled : ℕ) (out' : List ℕ) (ended : Bool) : Type 0 where
-  pub box : stateOf next ring ≡ p .box
-  pub place : at ≡ p .place
-  pub stopped : ended ≡ p .ended
-  pub long : filled ≡ length (p .text)
-  pub text : out' ≡ overlaid out 0 (p .text)
-  pub inside : at ≤ length window
-  pub fits : filled ≤ length out'
+  served zero p (b ∷ s) =
+      cond (roomy p) (turned p (piece replyRoom (base + p .place) last (p .box) (b ∷ s)) (λ skip q. served skip q s)) p
 
 -- the bytes of a buffer that are read in but not answered yet
 abbrev pub unread : List ℕ → ℕ → ℕ → List ℕ

@@ -1,74 +1,36 @@
-// A window of the desk's input, answered record by record into a lent buffer.
+// A window of the desk's input, answered record by record into a lent buffer. The box is its numbers, lent for each window and each
+// record, and found there as they are left.
 use answers::Request;
 use desk_records::Hearing;
-use rules::Record;
+use stored::WORDS;
 ghost use mathlib.Core.Path.{_≡_};
-ghost use mathlib.Core.Bool.{not, cond, _&&_};
+ghost use mathlib.Core.Bool.{true, false, not, cond};
 ghost use mathlib.Core.List.{[]};
 ghost use Prim.Native.Nat.{_+_, _-_, _≤_, min};
-ghost use lib.Dec.{leb};
-ghost use lib.ListN.{length};
+ghost use lib.ListN.{length, drop};
 ghost use Rattle.rules.specs.Machine.{step};
 ghost use Rattle.answers.specs.Told.{stateOf};
 ghost use Rattle.answers.specs.Asked.{asked, replied};
 ghost use Rattle.desk_text.specs.Put.{Puts};
-ghost use Rattle.desk_records.specs.Reading.{cutAt};
-ghost use Rattle.desk_line.specs.Line.{lineFor, lineRoom};
-ghost use Rattle.desk_stream.specs.Desk.{replyRoom, callWith, badLine, badText};
-ghost use Rattle.desk_stream.specs.Window.{outset, served, Holds, unread};
-
-// No line is longer.
-const LINE_ROOM: usize = 640;
+ghost use Rattle.desk_line.specs.Line.{lineRoom};
+ghost use Rattle.stored.specs.Stored.{isBox, recorded};
+ghost use Rattle.desk_stream.specs.Desk.{replyRoom, hears, callWith, badLine, badText};
+ghost use Rattle.desk_stream.specs.Window.{waits, answeredBy, piece, repliedIn, unread};
+ghost use Rattle.desk_stream.specs.Held.{Turns, Serves};
+ghost use Rattle.desk_stream.specs.Boxed.{serving, performing};
 
 // The reply that serves all fetches of a window.
 const REPLY_ROOM: usize = 259;
 
-// What a window gave: the record, how far it was read, how much text stands in the buffer, and whether a record was bad.
-pub struct Served {
-    pub next: Record,
-    pub at: usize,
-    pub filled: usize,
-    pub ended: bool,
-}
+const UNSOUND: u16 = 604;
 
-// The record after an answer, its number, and the place behind its line.
-pub struct Turn {
-    pub next: Record,
+// What came of a record, or of a window of them: the number, how far the input is read, how much text stands in the lines, and
+// whether a bad record was met.
+pub struct Came {
     pub number: u16,
-    pub filled: usize,
-}
-
-// One request answered, and its line put.
-pub fn answer(
-    r: Record,
-    ring: &mut [u8],
-    reply: &mut [u8],
-    kind: u8,
-    request: Request,
-    given: &[u8],
-    out: &mut [u8],
-    at: usize,
-) -> Turn
-    ensures { λ t. ⌜ stateOf (t .next) (now (ring .exit))
-        ≡ step (stateOf r (now (ring .entry))) (callWith (length (now (reply .entry))) request (now (given .entry))) .state ⌝ }
-    ensures { λ t. ⌜ Puts (now (out .entry)) at
-        (lineFor kind (step (stateOf r (now (ring .entry))) (callWith (length (now (reply .entry))) request (now (given .entry)))))
-        (t .filled) (now (out .exit)) ⌝ }
-    ensures { λ t. ⌜ t .number ≡ step (stateOf r (now (ring .entry))) (callWith (length (now (reply .entry))) request (now (given .entry))) .number ⌝ }
-    ensures { λ _. ⌜ now (reply .exit)
-        ≡ replied (asked request (now (given .entry)) (now (reply .entry)))
-        (step (stateOf r (now (ring .entry))) (asked request (now (given .entry)) (now (reply .entry)))) (now (reply .entry)) ⌝ }
-{
-    let after = calls::perform(r, ring, request, given, reply);
-    let next = after.next;
-    let answer = after.answer;
-    let number = answer.number();
-    let filled = desk_line::put_line(out, at, kind, number, next, answer, reply);
-    Turn {
-        next,
-        number,
-        filled,
-    }
+    pub read: usize,
+    pub written: usize,
+    pub ended: bool,
 }
 
 pub fn put_bad(out: &mut [u8], at: usize, offset: u64) -> usize
@@ -79,109 +41,226 @@ pub fn put_bad(out: &mut [u8], at: usize, offset: u64) -> usize
     desk_text::put_byte(out, b, b'\n')
 }
 
+// ---- one record's piece of the input
 // Where no record reads: a cut one waits for more input, if more may come; any other is bad.
-fn stop(
-    next: Record,
+fn stop(s: &[u8], at: usize, base: u64, last: bool, out: &mut [u8], filled: usize) -> Came
+    ensures { λ t. ⌜ t .number ≡ 0 ⌝ }
+    ensures { λ t. ⌜ t .read ≡ at ⌝ }
+    ensures { λ t. ⌜ t .ended ≡ not (waits last (drop at (now (s .entry)))) ⌝ }
+    ensures { λ t. ⌜ Puts (now (out .entry)) filled (cond (waits last (drop at (now (s .entry)))) [] (badText (base + at))) (t .written) (now (out .exit)) ⌝ }
+{
+    if desk_records::read::is_cut(s, at) & !last {
+        return Came {
+            number: 0,
+            read: at,
+            written: filled,
+            ended: false,
+        };
+    }
+    let end = put_bad(out, filled, std::num::wrapping_add_u64(base, at as u64));
+    Came {
+        number: 0,
+        read: at,
+        written: end,
+        ended: true,
+    }
+}
+
+// One request answered, and its line put; `place` is behind its record.
+fn answer(
+    w: &mut [u64; WORDS],
+    ring: &mut [u8],
+    reply: &mut [u8],
+    kind: u8,
+    request: Request,
+    given: &[u8],
+    place: usize,
+    out: &mut [u8],
+    filled: usize,
+) -> Came
+    requires { ⌜ isBox (now w) (length (now ring)) ≡ true ⌝ }
+    requires { ⌜ filled + lineRoom ≤ length (now out) ⌝ }
+    ensures { λ t. ⌜ t .read ≡ place ⌝ }
+    ensures { λ t. ⌜ Turns (answeredBy kind (step (stateOf (recorded (now (w .entry))) (now (ring .entry)))
+        (callWith (length (now (reply .entry))) request (now (given .entry)))) 0)
+        (now (out .entry)) filled (t .number) (t .written) (t .ended) (now (w .exit)) (now (ring .exit)) (now (out .exit)) ⌝ }
+    ensures { λ _. ⌜ now (reply .exit)
+        ≡ replied (asked request (now (given .entry)) (now (reply .entry)))
+        (step (stateOf (recorded (now (w .entry))) (now (ring .entry))) (asked request (now (given .entry)) (now (reply .entry)))) (now (reply .entry)) ⌝ }
+{
+    let answer = working::perform(w, ring, request, given, reply);
+    let number = answer.number();
+    let next = stored::load(w);
+    let written = desk_line::put_line(out, filled, kind, number, next, answer, reply);
+    Came {
+        number,
+        read: place,
+        written,
+        ended: false,
+    }
+}
+
+// The piece of the input at a place: the record there, answered, or bad. One of no size leaves nothing to go on with.
+fn turn(
+    w: &mut [u64; WORDS],
+    ring: &mut [u8],
+    reply: &mut [u8],
     s: &[u8],
     at: usize,
     base: u64,
     last: bool,
     out: &mut [u8],
     filled: usize,
-) -> Served
-    ensures { λ t. ⌜ t .next ≡ next ⌝ }
-    ensures { λ t. ⌜ t .at ≡ at ⌝ }
-    ensures { λ t. ⌜ t .ended ≡ not (cutAt (now (s .entry)) at && not last) ⌝ }
-    ensures { λ t. ⌜ Puts (now (out .entry)) filled (cond (cutAt (now (s .entry)) at && not last) [] (badText (base + at))) (t .filled) (now (out .exit)) ⌝ }
+) -> Came
+    requires { ⌜ isBox (now w) (length (now ring)) ≡ true ⌝ }
+    requires { ⌜ filled + lineRoom ≤ length (now out) ⌝ }
+    ensures { λ t. ⌜ t .read ≡ at + piece (length (now (reply .entry))) (base + at) last (stateOf (recorded (now (w .entry))) (now (ring .entry))) (drop at (now (s .entry))) .size ⌝ }
+    ensures { λ t. ⌜ Turns (piece (length (now (reply .entry))) (base + at) last (stateOf (recorded (now (w .entry))) (now (ring .entry))) (drop at (now (s .entry))))
+        (now (out .entry)) filled (t .number) (t .written) (t .ended) (now (w .exit)) (now (ring .exit)) (now (out .exit)) ⌝ }
+    ensures { λ _. ⌜ now (reply .exit) ≡ repliedIn (hears (drop at (now (s .entry)))) (stateOf (recorded (now (w .entry))) (now (ring .entry))) (now (reply .entry)) ⌝ }
 {
-    if desk_records::read::is_cut(s, at) & !last {
-        return Served {
-            next,
-            at,
-            filled,
-            ended: false,
-        };
-    }
-    let end = put_bad(out, filled, std::num::wrapping_add_u64(base, at as u64));
-    Served {
-        next,
-        at,
-        filled: end,
-        ended: true,
-    }
+    let hearing = desk_records::read::hear(s, at);
+    let Hearing::Record {
+        kind,
+        request,
+        start,
+        len,
+        next: place,
+    } = hearing
+    else {
+        stored::count(*w);
+        return stop(s, at, base, last, out, filled);
+    };
+    let body = desk_records::read::payload(s, start, len);
+    let given = desk_kinds::payload::given(kind, body);
+    answer(w, ring, reply, kind, request, given, place, out, filled)
 }
 
-// Whether a line has room behind what stands in the buffer.
-pub fn has_room(filled: usize, room: usize) -> bool
-    ensures { λ b. ⌜ b ≡ leb (filled + lineRoom) room ⌝ }
-{
-    if room < LINE_ROOM {
-        return false;
-    }
-    filled <= room - LINE_ROOM
-}
-
+// ---- a window
 fn serve_with(
-    r: Record,
+    w: &mut [u64; WORDS],
     ring: &mut [u8],
     reply: &mut [u8],
     s: &[u8],
     base: u64,
     last: bool,
     out: &mut [u8],
-) -> Served
+) -> Came
     requires { ⌜ length (now reply) ≡ replyRoom ⌝ }
-    ensures { λ t. ⌜ Holds (served base last (length (now (out .entry))) 0 (outset (stateOf r (now (ring .entry)))) (now (s .entry)))
-        (now (s .entry)) (now (out .entry)) (t .next) (now (ring .exit)) (t .at) (t .filled) (now (out .exit)) (t .ended) ⌝ }
+    requires { ⌜ isBox (now w) (length (now ring)) ≡ true ⌝ }
+    ensures { λ t. ⌜ Serves base last (now (w .entry)) (now (ring .entry)) (now (s .entry)) (now (out .entry))
+        (t .number) (t .read) (t .written) (t .ended) (now (w .exit)) (now (ring .exit)) (now (out .exit)) ⌝ }
 {
-    let mut next = r;
+    stored::count(*w);
     let mut at: usize = 0;
     let mut filled: usize = 0;
     while at < s.len() {
-        if !has_room(filled, out.len()) {
-            return Served {
-                next,
-                at,
-                filled,
+        if !desk_line::has_room(filled, out.len()) {
+            return Came {
+                number: 0,
+                read: at,
+                written: filled,
                 ended: false,
             };
         }
-        let hearing = desk_records::read::hear(s, at);
-        let Hearing::Record {
-            kind,
-            request,
-            start,
-            len,
-            next: place,
-        } = hearing
-        else {
-            return stop(next, s, at, base, last, out, filled);
-        };
-        let body = desk_records::read::payload(s, start, len);
-        let given = desk_kinds::payload::given(kind, body);
-        let turn = answer(next, ring, reply, kind, request, given, out, filled);
-        next = turn.next;
-        filled = turn.filled;
-        at = place;
+        let turn = turn(w, ring, reply, s, at, base, last, out, filled);
+        filled = turn.written;
+        if turn.read == at {
+            return Came {
+                number: 0,
+                read: at,
+                written: filled,
+                ended: turn.ended,
+            };
+        }
+        at = turn.read;
     }
-    Served {
-        next,
-        at,
-        filled,
+    Came {
+        number: 0,
+        read: at,
+        written: filled,
+        ended: false,
+    }
+}
+
+fn unsound() -> Came
+    ensures { λ t. ⌜ t ≡ record { number = 604; read = 0; written = 0; ended = false } ⌝ }
+{
+    Came {
+        number: UNSOUND,
+        read: 0,
+        written: 0,
         ended: false,
     }
 }
 
 // Answers the records of a window, each as soon as it is whole and its line has room: the lines go to the front of `out`. `base`
 // is the window's offset in the input; `last` says that no input follows it.
-pub fn serve(r: Record, ring: &mut [u8], s: &[u8], base: u64, last: bool, out: &mut [u8]) -> Served
-    ensures { λ t. ⌜ Holds (served base last (length (now (out .entry))) 0 (outset (stateOf r (now (ring .entry)))) (now (s .entry)))
-        (now (s .entry)) (now (out .entry)) (t .next) (now (ring .exit)) (t .at) (t .filled) (now (out .exit)) (t .ended) ⌝ }
-    ensures { λ t. ⌜ t .at ≤ length (now (s .entry)) ⌝ }
-    ensures { λ t. ⌜ t .filled ≤ length (now (out .exit)) ⌝ }
+pub fn serve(
+    w: &mut [u64; WORDS],
+    ring: &mut [u8],
+    s: &[u8],
+    base: u64,
+    last: bool,
+    out: &mut [u8],
+) -> Came
+    ensures { λ t. ⌜ record {
+      number = t .number;
+      words = now (w .exit);
+      ring = now (ring .exit);
+      reply = [];
+      lines = now (out .exit);
+      read = t .read;
+      written = t .written;
+      ended = t .ended;
+    }
+        ≡ serving (now (w .entry)) (now (ring .entry)) (now (s .entry)) base last (now (out .entry)) ⌝ }
+    ensures { λ t. ⌜ t .read ≤ length (now (s .entry)) ⌝ }
+    ensures { λ t. ⌜ t .written ≤ length (now (out .exit)) ⌝ }
+    ensures { λ _. ⌜ isBox (now (w .exit)) (length (now (ring .exit))) ≡ isBox (now (w .entry)) (length (now (ring .entry))) ⌝ }
 {
+    if !working::is_box(w, ring.len()) {
+        return unsound();
+    }
     let mut reply = [0; REPLY_ROOM];
-    serve_with(r, ring, &mut reply, s, base, last, out)
+    serve_with(w, ring, &mut reply, s, base, last, out)
+}
+
+// Answers the record at the front of the input, and puts its line, where there is room for any.
+pub fn perform(
+    w: &mut [u64; WORDS],
+    ring: &mut [u8],
+    reply: &mut [u8],
+    s: &[u8],
+    offset: u64,
+    out: &mut [u8],
+) -> Came
+    ensures { λ t. ⌜ record {
+      number = t .number;
+      words = now (w .exit);
+      ring = now (ring .exit);
+      reply = now (reply .exit);
+      lines = now (out .exit);
+      read = t .read;
+      written = t .written;
+      ended = t .ended;
+    }
+        ≡ performing (now (w .entry)) (now (ring .entry)) (now (reply .entry)) (now (s .entry)) offset (now (out .entry)) ⌝ }
+    ensures { λ _. ⌜ isBox (now (w .exit)) (length (now (ring .exit))) ≡ isBox (now (w .entry)) (length (now (ring .entry))) ⌝ }
+{
+    if !working::is_box(w, ring.len()) {
+        return unsound();
+    }
+    stored::count(*w);
+    if !desk_line::has_room(0, out.len()) {
+        return Came {
+            number: 0,
+            read: 0,
+            written: 0,
+            ended: false,
+        };
+    }
+    turn(w, ring, reply, s, 0, offset, true, out, 0)
 }
 
 // What is left of `a`, 0 where `b` exceeds it.

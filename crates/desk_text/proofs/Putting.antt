@@ -100,6 +100,24 @@ then {o} {o₁} {o₂} {t} {u} {a} {r} {q} p k =
           ∙ ap (overlaid o a) (sym all);
     }
 
+-- no further than the text is long
+pub put-most : {o o₁ t : List ℕ} {at r : ℕ} → Puts o at t r o₁ → r ≤ at + length t
+put-most {o} {o₁} {t} {at} p = omega (arith, p .behind, length-take (length o - at) t)
+
+-- two bytes, and three
+pub put-two : (o : List ℕ) (at a b : ℕ) → at + 2 ≤ length o → Puts o at (a ∷ b ∷ []) (at + 2) (set (set o at a) (at + 1) b)
+put-two o at a b h =
+    let second = put-one-fits (set o at a) (at + 1) b (simp length-set (omega arith)) in
+    let next : at + 1 + 1 ≡ at + 2 = omega arith in
+    rw next at (then (put-one-fits o at a (omega arith)) second)
+
+pub put-three : (o : List ℕ) (at a b c : ℕ) → at + 3 ≤ length o
+    → Puts o at (a ∷ b ∷ c ∷ []) (at + 3) (set (set (set o at a) (at + 1) b) (at + 2) c)
+put-three o at a b c h =
+    let third = put-one-fits (set (set o at a) (at + 1) b) (at + 2) c (simp length-set (omega arith)) in
+    let next : at + 2 + 1 ≡ at + 3 = omega arith in
+    rw next at (then (put-two o at a b (omega arith)) third)
+
 -- ---- bytes, one more in each turn
 pub byte-more : (o o₁ s : List ℕ) (at i n : ℕ) → n ≡ min (length o - at) (length s) → i < n → Puts o at (take i s) (at + i) o₁
     → Puts o at (take (i + 1) s) (at + (i + 1)) (set o₁ (at + i) (getD s i 0))
@@ -134,8 +152,19 @@ more-digits : (m n : ℕ) → 9 < n → lastDigits (suc m) n ≡ lastDigits m (n
 unfolding lastDigits
 more-digits m n h = simp (le-ltb n 10 h)
 
+pub digit-alone : (n : ℕ) → n < 10 → (48 + n) ∷ [] ≡ decimal n
+digit-alone n h = sym (one-digit mostDigits n (omega arith) h)
+
 pub digits-one : {o o₁ : List ℕ} {at r n : ℕ} → n < 10 → Puts o at ((48 + n) ∷ []) r o₁ → Puts o at (decimal n) r o₁
-digits-one {n = n} h p = moved p (sym (one-digit mostDigits n (omega arith) h))
+digits-one {n = n} h p = moved p (digit-alone n h)
+
+pub digits-two : (n : ℕ) → 9 < n → n < 100 → (48 + n / 10) ∷ (48 + n % 10) ∷ [] ≡ decimal n
+digits-two n l h = rw (more-digits 19 n l, one-digit 19 (n / 10) (omega arith) (omega arith))
+
+pub digits-three : (n : ℕ) → 99 < n → n < 1000 → (48 + n / 100) ∷ (48 + n / 10 % 10) ∷ (48 + n % 10) ∷ [] ≡ decimal n
+digits-three n l h =
+    let hundreds : n / 10 / 10 ≡ n / 100 = omega arith in
+    rw (more-digits 19 n (omega arith), more-digits 18 (n / 10) (omega arith), hundreds, one-digit 18 (n / 100) (omega arith) (omega arith))
 
 -- as many digits as a number has are enough for it
 record Exact (k n : ℕ) : Type 0 where
@@ -274,12 +303,19 @@ put-part o part t at end f e h =
 
 -- ---- hex
 -- the sum has the seven signs between 9 and A in it from ten on
-pub hex-sum : (n : ℕ) → n < 16 → 48 + n + (n + 6) / 16 * 7 ≡ hexDigit n
-hex-sum n h = by-test (ltb n 10) refl
+pub hex-sum : (n x : ℕ) → x ≡ cond (ltb n 10) 0 7 → 48 + n + x ≡ hexDigit n
+hex-sum n x e = by-test (ltb n 10) e
   where
-    by-test : (b : Bool) → ltb n 10 ≡ b → 48 + n + (n + 6) / 16 * 7 ≡ cond b (48 + n) (55 + n)
-    by-test true e = let l = ltb-true n 10 e in omega arith
-    by-test false e = let l = ltb-false n 10 e in omega arith
+    by-test : (b : Bool) → x ≡ cond b 0 7 → 48 + n + x ≡ cond b (48 + n) (55 + n)
+    by-test true e = omega (arith, e)
+    by-test false e = omega (arith, e)
+
+pub hex-most : (n x : ℕ) → x ≡ cond (ltb n 10) 0 7 → x ≤ 7
+hex-most n x e = by-test (ltb n 10) e
+  where
+    by-test : (b : Bool) → x ≡ cond b 0 7 → x ≤ 7
+    by-test true e = omega (arith, e)
+    by-test false e = omega (arith, e)
 
 pub hex-two : (o o₁ o₂ : List ℕ) (at r q b x y : ℕ) → x ≡ hexDigit (b / 16) → Puts o at (x ∷ []) r o₁ → y ≡ hexDigit (b % 16)
     → Puts o₁ r (y ∷ []) q o₂ → Puts o at (hexByte b) q o₂

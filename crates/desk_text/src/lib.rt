@@ -1,8 +1,10 @@
 // Text into a lent buffer, as far as there is room. Each function puts its text at a place and answers the place behind it,
 // so that one text is put behind another with no test in between.
 ghost use mathlib.Core.Path.{_≡_};
+ghost use mathlib.Core.Bool.{cond};
 ghost use mathlib.Core.List.{[], _∷_};
 ghost use Prim.Native.Nat.{_-_, _*_, _<_, min};
+ghost use lib.Dec.{ltb};
 ghost use lib.ListN.{length};
 ghost use Rattle.desk_text.specs.Put.{Puts};
 ghost use Rattle.desk_text.specs.Digits.{decimal, hexDigit, hexByte, hexes};
@@ -155,12 +157,19 @@ pub fn put_decimal(out: &mut [u8], at: usize, n: u64) -> usize
     put_digits(out, at, n)
 }
 
-// With no branch, so that a loop of these is vectorised: from ten on n + 6 has a sixteen in it, and seven signs stand between 9 and A.
+// Seven signs stand between 9 and A.
+fn beyond_nine(n: u8) -> u8
+    ensures { λ r. ⌜ r ≡ cond (ltb n 10) 0 7 ⌝ }
+{
+    if n < 10 { 0 } else { 7 }
+}
+
+// A sum, so that a loop of these is vectorised.
 fn hex_digit(n: u8) -> u8
     requires { ⌜ n < 16 ⌝ }
     ensures { λ r. ⌜ r ≡ hexDigit n ⌝ }
 {
-    48 + n + (n + 6) / 16 * 7
+    48 + n + beyond_nine(n)
 }
 
 // A byte as two digits, 0 to 9 and A to F.

@@ -1,4 +1,5 @@
 // The feeder calls: the job number must be the one held, 0 when Idle.
+// A call's `_sound` is for a caller that knows the record to be sound with the ring: soundness is tested once.
 pub mod mode;
 
 use answers::After;
@@ -8,8 +9,10 @@ use rules::Fed;
 use rules::Input;
 use rules::Record;
 ghost use mathlib.Core.Path.{_≡_};
-ghost use mathlib.Core.Bool.{cond};
+ghost use mathlib.Core.Bool.{true, cond};
 ghost use mathlib.Core.List.{[]};
+ghost use lib.ListN.{length};
+ghost use Rattle.rules.specs.Record.{sound};
 ghost use Rattle.rules.specs.Calls.{n501, n711, n713, feeder, Load, Eject, Reset};
 ghost use Rattle.rules.specs.Feeder.{fedAt, denies, ejecting};
 ghost use Rattle.rules.specs.Moves.{fedBy};
@@ -51,24 +54,29 @@ fn ejecting(value: u8) -> Input
     Input::EjectAll
 }
 
-pub fn load(r: Record, ring: &[u8], job: u32) -> After
-    ensures { λ a. ⌜ gave a (now (ring .entry)) [] ≡ step (stateOf r (now (ring .entry))) (feeder (Load job)) ⌝ }
+pub fn load_sound(r: Record, ring: &[u8], job: u32) -> After
+    ensures { λ a. ⌜ (sound r (length (now (ring .entry))) ≡ true
+        → gave a (now (ring .entry)) [] ≡ step (stateOf r (now (ring .entry))) (feeder (Load job))) ⌝ }
 {
-    if !sound::sound_with(r, ring) {
-        return After::refused(Why::Unsound, r);
-    }
     if words::not_ours(job, r) {
         return After::refused(Why::OtherJob, r);
     }
     by_rule(Input::Load, r)
 }
 
-pub fn eject(r: Record, ring: &[u8], job: u32, value: u8) -> After
-    ensures { λ a. ⌜ gave a (now (ring .entry)) [] ≡ step (stateOf r (now (ring .entry))) (feeder (Eject job value)) ⌝ }
+pub fn load(r: Record, ring: &[u8], job: u32) -> After
+    ensures { λ a. ⌜ gave a (now (ring .entry)) [] ≡ step (stateOf r (now (ring .entry))) (feeder (Load job)) ⌝ }
 {
     if !sound::sound_with(r, ring) {
         return After::refused(Why::Unsound, r);
     }
+    load_sound(r, ring, job)
+}
+
+pub fn eject_sound(r: Record, ring: &[u8], job: u32, value: u8) -> After
+    ensures { λ a. ⌜ (sound r (length (now (ring .entry))) ≡ true
+        → gave a (now (ring .entry)) [] ≡ step (stateOf r (now (ring .entry))) (feeder (Eject job value))) ⌝ }
+{
     if !words::is_listed(value) {
         return After::refused(Why::Unlisted, r);
     }
@@ -78,14 +86,30 @@ pub fn eject(r: Record, ring: &[u8], job: u32, value: u8) -> After
     by_rule(ejecting(value), r)
 }
 
+pub fn eject(r: Record, ring: &[u8], job: u32, value: u8) -> After
+    ensures { λ a. ⌜ gave a (now (ring .entry)) [] ≡ step (stateOf r (now (ring .entry))) (feeder (Eject job value)) ⌝ }
+{
+    if !sound::sound_with(r, ring) {
+        return After::refused(Why::Unsound, r);
+    }
+    eject_sound(r, ring, job, value)
+}
+
+pub fn reset_sound(r: Record, ring: &[u8], job: u32) -> After
+    ensures { λ a. ⌜ (sound r (length (now (ring .entry))) ≡ true
+        → gave a (now (ring .entry)) [] ≡ step (stateOf r (now (ring .entry))) (feeder (Reset job))) ⌝ }
+{
+    if words::not_ours(job, r) {
+        return After::refused(Why::OtherJob, r);
+    }
+    by_rule(Input::Reset, r)
+}
+
 pub fn reset(r: Record, ring: &[u8], job: u32) -> After
     ensures { λ a. ⌜ gave a (now (ring .entry)) [] ≡ step (stateOf r (now (ring .entry))) (feeder (Reset job)) ⌝ }
 {
     if !sound::sound_with(r, ring) {
         return After::refused(Why::Unsound, r);
     }
-    if words::not_ours(job, r) {
-        return After::refused(Why::OtherJob, r);
-    }
-    by_rule(Input::Reset, r)
+    reset_sound(r, ring, job)
 }

@@ -1,21 +1,22 @@
 -- What a fetch hands over: how many bytes, the reply, and the record that is left.
-use Prim.Native.Nat.{ℕ, _+_, _-_, _<_, _≤_, min}
+use Prim.Native.Nat.{ℕ, _+_, _-_, _≤_, min}
 use mathlib.Core.Path.{_≡_, sym, ap, _∙_}
-use mathlib.Core.Bool.{Bool, true, false, _&&_}
+use mathlib.Core.Bool.{Bool, true, false, cond, _&&_}
 use mathlib.Core.List.{List, [], _∷_, _++_, append-nil}
 use native.Mathlib.Omega.{arith}
 use borrow.Author.Tests.{lt-ltb, le-leb}
 use borrow.Rule.Slice.PartMut.{putMid}
-use lib.Dec.{eqb}
+use lib.Dec.{eqb, ltb}
 use lib.ListN.{length, set, take, drop, length-set, length-drop}
 use lib.Seq.{take-all, drop-length, drop-drop, take-at}
 use Rattle.rules.specs.declared.Record.{Record}
 use Rattle.rules.specs.declared.Ring.{Ring}
-use Rattle.rules.specs.Record.{finishing}
+use Rattle.rules.specs.Record.{finishing, sound}
 use Rattle.rules.specs.Ring.{wrap, queue}
 use Rattle.rules.specs.Moves.{withRing, heard, drained, headed, least, moved, last, fetched}
 use Rattle.rules.specs.Calls.{scan, Fetch}
 use Rattle.rules.specs.Machine.{effect, scanEffect}
+use Rattle.rules.proofs.Sound.{to-sound}
 use Rattle.rules.proofs.RingLaws.{length-queue}
 use Rattle.ring.specs.Lent.{has, leftAfter, goesOut, takeOut}
 use Rattle.answers.specs.declared.Answer.{Answer}
@@ -42,10 +43,16 @@ behind-long l =
     ap length (behind-is l) ∙ length-drop headed (marked l)
     ∙ ap (λ (n : ℕ). n - headed) (marked-long l)
 
-pub moved-count : (n start want k : ℕ) (l : List ℕ) → start < n → want ≤ n → k ≡ goesOut n start want (length (behind l)) → k ≡ min want (length l - headed)
-moved-count n start want k l h w e =
-    let one : min (min want n) (length l - headed) ≡ min want (length l - headed) = omega arith in
-    e ∙ rw (lt-ltb start n h, behind-long l) one
+pub moved-count : (n start want k : ℕ) (l : List ℕ) → k ≡ goesOut n start want (length (behind l)) → k ≡ goesOut n start want (length l - headed)
+moved-count n start want k l e = e ∙ ap (goesOut n start want) (behind-long l)
+
+-- no more goes out than is wanted, from whatever start
+pub goes-most : (n start want room k : ℕ) → k ≡ goesOut n start want room → k ≤ want
+goes-most n start want room k e = by-test (ltb start n) e
+  where
+    by-test : (t : Bool) → k ≡ cond t (min (min want n) room) 0 → k ≤ want
+    by-test true e = omega (arith, e)
+    by-test false e = omega (arith, e)
 
 pub reply-made : (ring l part : List ℕ) (start want k : ℕ) → headed ≤ length l → k ≡ goesOut (length ring) start want (length (behind l))
     → part ≡ takeOut ring start want (behind l)
@@ -79,9 +86,6 @@ pub handed : (r : Record) (ring called reply : List ℕ) (most : ℕ) {a : After
 unfolding noted replyWith effect scanEffect
 handed r ring called reply most e f = rw (e, f) (rw (picture-read ring reply (r .ring .start) (least (r .ring .stored) most (length reply))))
 
-pub least-is : (stored most room want k : ℕ) → want ≡ min stored most → k ≡ min want (room - headed) → k ≡ least stored most room
-least-is stored most room want k w e = omega (arith, w, e)
-
 -- ---- the record
 module _ (r : Record) (n k : ℕ) (h : has (r .ring) n k ≡ true) where
   left-is : leftAfter (r .ring) n k ≡ record { start = wrap n (r .ring .start + k); stored = r .ring .stored - k }
@@ -100,5 +104,16 @@ module _ (r : Record) (n k : ℕ) (h : has (r .ring) n k ≡ true) where
   unfolding noted fetched moved
   noted-more e = rw (note-is false e, left-is)
 
-pub has-all : (g : Ring) (n k : ℕ) → g .start < n → g .stored ≤ n → k ≤ g .stored → has g n k ≡ true
-has-all g n k h s l = rw (lt-ltb (g .start) n h, le-leb (g .stored) n s, le-leb k (g .stored) l)
+-- in a sound box what is wanted stands in the ring, so only the reply's room holds it back
+module _ (r : Record) (n most room want k : ℕ) (so : sound r n ≡ true) (w : want ≡ min (r .ring .stored) most)
+    (e : k ≡ goesOut n (r .ring .start) want (room - headed)) where
+  pub least-goes : k ≡ least (r .ring .stored) most room
+  least-goes =
+      let fit = to-sound r n so .common .ring in
+      let some : goesOut n (r .ring .start) want (room - headed) ≡ min (min want n) (room - headed) = rw (lt-ltb (r .ring .start) n (fit .start)) in
+      omega (arith, w, e, some, fit .stored)
+
+  pub least-there : has (r .ring) n k ≡ true
+  least-there =
+      let fit = to-sound r n so .common .ring in
+      rw (lt-ltb (r .ring .start) n (fit .start), le-leb (r .ring .stored) n (fit .stored), le-leb k (r .ring .stored) (omega (arith, least-goes)))

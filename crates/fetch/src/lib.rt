@@ -5,14 +5,15 @@ use answers::Why;
 use rules::Record;
 use rules::Ring;
 ghost use mathlib.Core.Path.{_≡_};
-ghost use mathlib.Core.Bool.{not, _||_, _&&_};
+ghost use mathlib.Core.Bool.{true, not, _||_, _&&_};
 ghost use Prim.Native.Nat.{_-_, _<_, _≤_, min};
 ghost use lib.Dec.{eqb};
 ghost use lib.ListN.{length};
-ghost use Rattle.rules.specs.Record.{idle, finishing};
+ghost use Rattle.rules.specs.Record.{idle, finishing, sound};
 ghost use Rattle.rules.specs.Moves.{name, least};
 ghost use Rattle.rules.specs.Calls.{scan, Fetch};
 ghost use Rattle.rules.specs.Machine.{same, step};
+ghost use Rattle.ring.specs.Lent.{has, goesOut};
 ghost use Rattle.answers.specs.Told.{stateOf, gave};
 ghost use Rattle.fetch.specs.Reply.{replyWith, noted};
 
@@ -36,8 +37,8 @@ fn wanted(stored: usize, most: u8) -> usize
 
 // The reply's head, and as many bytes straight after it as find room: how many.
 fn move_out(ring: &[u8], start: usize, want: usize, reply: &mut [u8]) -> usize
-    requires { ⌜ (start < length (now ring)) × (want ≤ length (now ring)) × (want < 256) × (4 ≤ length (now reply)) ⌝ }
-    ensures { λ k. ⌜ k ≡ min want (length (now (reply .entry)) - 4) ⌝ }
+    requires { ⌜ (want < 256) × (4 ≤ length (now reply)) ⌝ }
+    ensures { λ k. ⌜ k ≡ goesOut (length (now (ring .entry))) start want (length (now (reply .entry)) - 4) ⌝ }
     ensures { λ k. ⌜ now (reply .exit) ≡ replyWith (now (ring .entry)) start k (now (reply .entry)) ⌝ }
 {
     reply[0] = 0xA5;
@@ -60,8 +61,8 @@ fn is_last(left: Ring, r: Record) -> bool
 
 // Start moves on by k; the drain step follows the last byte.
 fn note(r: Record, len: usize, k: usize) -> After
-    requires { ⌜ (r .ring .start < len) × (r .ring .stored ≤ len) × (k ≤ r .ring .stored) × (k < 256) ⌝ }
-    ensures { λ a. ⌜ a ≡ noted k len r ⌝ }
+    requires { ⌜ k < 256 ⌝ }
+    ensures { λ a. ⌜ (has (r .ring) len k ≡ true → a ≡ noted k len r) ⌝ }
 {
     let was = r.ring;
     let left = ring::leave(was, len, k);
@@ -73,16 +74,31 @@ fn note(r: Record, len: usize, k: usize) -> After
 }
 
 fn fetch_now(r: Record, ring: &[u8], most: u8, reply: &mut [u8]) -> After
-    requires { ⌜ (r .ring .start < length (now ring)) × (r .ring .stored ≤ length (now ring)) × (4 ≤ length (now reply)) ⌝ }
-    ensures { λ a. ⌜ a ≡ noted (least (r .ring .stored) most (length (now (reply .entry)))) (length (now (ring .entry))) r ⌝ }
-    ensures { λ a. ⌜ now (reply .exit)
-        ≡ replyWith (now (ring .entry)) (r .ring .start) (least (r .ring .stored) most (length (now (reply .entry)))) (now (reply .entry)) ⌝ }
+    requires { ⌜ 4 ≤ length (now reply) ⌝ }
+    ensures { λ a. ⌜ (sound r (length (now (ring .entry))) ≡ true
+        → a ≡ noted (least (r .ring .stored) most (length (now (reply .entry)))) (length (now (ring .entry))) r) ⌝ }
+    ensures { λ a. ⌜ (sound r (length (now (ring .entry))) ≡ true → now (reply .exit)
+        ≡ replyWith (now (ring .entry)) (r .ring .start) (least (r .ring .stored) most (length (now (reply .entry)))) (now (reply .entry))) ⌝ }
 {
     let g = r.ring;
     let start = g.start;
     let want = wanted(g.stored, most);
     let k = move_out(ring, start, want, reply);
     note(r, ring.len(), k)
+}
+
+// What it gives on a sound record: for a caller that has tested that already.
+pub fn fetch_sound(r: Record, ring: &[u8], called: &[u8], most: u8, reply: &mut [u8]) -> After
+    ensures { λ a. ⌜ (sound r (length (now (ring .entry))) ≡ true → gave a (now (ring .entry)) (now (reply .exit))
+        ≡ step (stateOf r (now (ring .entry))) (scan (Fetch (now (called .entry)) most (now (reply .entry))))) ⌝ }
+{
+    if is_other(called, r) {
+        return After::refused(Why::OtherName, r);
+    }
+    if reply.len() < 4 {
+        return After::refused(Why::NoRoom, r);
+    }
+    fetch_now(r, ring, most, reply)
 }
 
 pub fn fetch(r: Record, ring: &[u8], called: &[u8], most: u8, reply: &mut [u8]) -> After
@@ -92,11 +108,5 @@ pub fn fetch(r: Record, ring: &[u8], called: &[u8], most: u8, reply: &mut [u8]) 
     if !sound::sound_with(r, ring) {
         return After::refused(Why::Unsound, r);
     }
-    if is_other(called, r) {
-        return After::refused(Why::OtherName, r);
-    }
-    if reply.len() < 4 {
-        return After::refused(Why::NoRoom, r);
-    }
-    fetch_now(r, ring, most, reply)
+    fetch_sound(r, ring, called, most, reply)
 }

@@ -51,21 +51,20 @@ pub fn present(r: Record) -> Name
     Name { bytes, len: 15 }
 }
 
-// The same bytes.
+// The same bytes. All are compared, so that the compiler compares many at once.
 pub fn is_same(a: &[u8], b: &[u8]) -> bool
     ensures { λ r. ⌜ r ≡ same (now (a .entry)) (now (b .entry)) ⌝ }
 {
     if a.len() != b.len() {
         return false;
     }
+    let mut alike = true;
     let mut i: usize = 0;
     while i < a.len() {
-        if a[i] != b[i] {
-            return false;
-        }
+        alike = alike & (a[i] == b[i]);
         i += 1;
     }
-    true
+    alike
 }
 
 // The name is the present one.

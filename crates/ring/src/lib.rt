@@ -8,6 +8,9 @@ ghost use lib.Seq.{paste};
 ghost use Rattle.rules.specs.Ring.{wrap, put};
 ghost use Rattle.ring.specs.Lent.{takes, putIn, has, leftAfter, goesOut, takeOut};
 
+// The longest run that is moved as a block; no desk record has a longer one.
+const SHORT: usize = 256;
+
 fn least(a: usize, b: usize) -> usize
     ensures { λ n. ⌜ n ≡ min a b ⌝ }
 {
@@ -61,8 +64,8 @@ pub fn leave(g: Ring, len: usize, k: usize) -> Ring
     }
 }
 
-// One straight run.
-fn copy_run(src: &[u8], from: usize, dst: &mut [u8], to: usize, n: usize)
+// One straight run, byte by byte.
+fn copy_each(src: &[u8], from: usize, dst: &mut [u8], to: usize, n: usize)
     requires { ⌜ (from + n ≤ length (now src)) × (to + n ≤ length (now dst)) ⌝ }
     ensures { λ _. ⌜ now (dst .exit) ≡ paste (now (dst .entry)) to (drop from (now (src .entry))) n ⌝ }
 {
@@ -71,6 +74,30 @@ fn copy_run(src: &[u8], from: usize, dst: &mut [u8], to: usize, n: usize)
         dst[to + i] = src[from + i];
         i += 1;
     }
+}
+
+// By way of a buffer of its own. The two slices might overlap for all that the compiler knows, the buffer does not, and so the run
+// is moved as one block.
+fn copy_short(src: &[u8], from: usize, dst: &mut [u8], to: usize, n: usize)
+    requires { ⌜ n ≤ 256 ⌝ }
+    requires { ⌜ (from + n ≤ length (now src)) × (to + n ≤ length (now dst)) ⌝ }
+    ensures { λ _. ⌜ now (dst .exit) ≡ paste (now (dst .entry)) to (drop from (now (src .entry))) n ⌝ }
+{
+    let mut held = [0u8; SHORT];
+    copy_each(src, from, &mut held, 0, n);
+    copy_each(&held, 0, dst, to, n);
+}
+
+// One straight run.
+fn copy_run(src: &[u8], from: usize, dst: &mut [u8], to: usize, n: usize)
+    requires { ⌜ (from + n ≤ length (now src)) × (to + n ≤ length (now dst)) ⌝ }
+    ensures { λ _. ⌜ now (dst .exit) ≡ paste (now (dst .entry)) to (drop from (now (src .entry))) n ⌝ }
+{
+    if n <= SHORT {
+        copy_short(src, from, dst, to, n);
+        return;
+    }
+    copy_each(src, from, dst, to, n);
 }
 
 // All of `bytes` from the place `at` on.

@@ -6,10 +6,11 @@ use rules::Record;
 use rules::Settings;
 use rules::Side;
 ghost use mathlib.Core.Path.{_≡_};
-ghost use mathlib.Core.Bool.{cond, not, _&&_, _||_};
+ghost use mathlib.Core.Bool.{true, cond, not, _&&_, _||_};
 ghost use mathlib.Core.List.{[]};
 ghost use lib.Dec.{eqb, leb};
-ghost use Rattle.rules.specs.Record.{endless, counted, on};
+ghost use lib.ListN.{length};
+ghost use Rattle.rules.specs.Record.{endless, counted, on, sound};
 ghost use Rattle.rules.specs.Feeder.{jamStops, sheetStops};
 ghost use Rattle.rules.specs.Moves.{started};
 ghost use Rattle.rules.specs.Calls.{scan, StartScan, Start};
@@ -54,16 +55,21 @@ fn begin(r: Record, n: Record, source: u8, count: u32, answer: Answer) -> After
 }
 
 // SideCount is in the bits of its two's complement; every asked time is taken.
-pub fn start_scan(r: Record, ring: &[u8], from: u8, count: u32, append: u8, asked: u32) -> After
-    ensures { λ a. ⌜ gave a (now (ring .entry)) [] ≡ step (stateOf r (now (ring .entry))) (scan (StartScan from count append asked)) ⌝ }
+pub fn start_scan_sound(
+    r: Record,
+    ring: &[u8],
+    from: u8,
+    count: u32,
+    append: u8,
+    asked: u32,
+) -> After
+    ensures { λ a. ⌜ (sound r (length (now (ring .entry))) ≡ true
+        → gave a (now (ring .entry)) [] ≡ step (stateOf r (now (ring .entry))) (scan (StartScan from count append asked))) ⌝ }
 {
     let c = r.scanner;
     let s = c.state;
     let t = r.settings;
     let source = sides::settle(from, t.feeder);
-    if !sound::sound_with(r, ring) {
-        return After::refused(Why::Unsound, r);
-    }
     if !all_listed(append, from, source, count) {
         return After::refused(Why::Unlisted, r);
     }
@@ -74,15 +80,22 @@ pub fn start_scan(r: Record, ring: &[u8], from: u8, count: u32, append: u8, aske
     begin(r, n, source, count, Answer::Time(n.job.granted.seconds))
 }
 
-pub fn start(r: Record, ring: &[u8], job: u32, from: u8, count: u32) -> After
-    ensures { λ a. ⌜ gave a (now (ring .entry)) [] ≡ step (stateOf r (now (ring .entry))) (scan (Start job from count)) ⌝ }
+pub fn start_scan(r: Record, ring: &[u8], from: u8, count: u32, append: u8, asked: u32) -> After
+    ensures { λ a. ⌜ gave a (now (ring .entry)) [] ≡ step (stateOf r (now (ring .entry))) (scan (StartScan from count append asked)) ⌝ }
+{
+    if !sound::sound_with(r, ring) {
+        return After::refused(Why::Unsound, r);
+    }
+    start_scan_sound(r, ring, from, count, append, asked)
+}
+
+pub fn start_sound(r: Record, ring: &[u8], job: u32, from: u8, count: u32) -> After
+    ensures { λ a. ⌜ (sound r (length (now (ring .entry))) ≡ true
+        → gave a (now (ring .entry)) [] ≡ step (stateOf r (now (ring .entry))) (scan (Start job from count))) ⌝ }
 {
     let c = r.scanner;
     let s = c.state;
     let source = sides::settle(from, r.settings.feeder);
-    if !sound::sound_with(r, ring) {
-        return After::refused(Why::Unsound, r);
-    }
     if !are_listed(from, source, count) {
         return After::refused(Why::Unlisted, r);
     }
@@ -93,4 +106,13 @@ pub fn start(r: Record, ring: &[u8], job: u32, from: u8, count: u32) -> After
         return After::refused(Why::WrongState, r);
     }
     begin(r, r, source, count, Answer::Done)
+}
+
+pub fn start(r: Record, ring: &[u8], job: u32, from: u8, count: u32) -> After
+    ensures { λ a. ⌜ gave a (now (ring .entry)) [] ≡ step (stateOf r (now (ring .entry))) (scan (Start job from count)) ⌝ }
+{
+    if !sound::sound_with(r, ring) {
+        return After::refused(Why::Unsound, r);
+    }
+    start_sound(r, ring, job, from, count)
 }

@@ -3,11 +3,11 @@ use crate::files::NOWHERE;
 use crate::files::part;
 use crate::say;
 use crate::say_count;
-use rules::Record;
+use desk_stream::Came;
+use stored::WORDS;
 
 // Where a run stands: the bytes before `at` are answered, those before `come` have come, and `said` bytes of text are gathered.
 struct Run {
-    next: Record,
     at: usize,
     come: usize,
     said: usize,
@@ -25,34 +25,53 @@ fn grown(is_dry: bool, come: usize, step: usize, len: usize) -> usize {
     if len - come < step { len } else { come + step }
 }
 
-// Answers what has come, as far as the lines have room.
-fn turn(f: Run, ring: &mut [u8], s: &[u8], step: usize, out: &mut [u8], to: &mut [u8]) -> Run {
-    let next = f.next;
+// Of a window that is refused: the number, the bytes read and the bytes of text, in a line.
+fn put_refusal(to: &mut [u8], at: usize, came: Came) -> usize {
+    if came.number == 0 {
+        return at;
+    }
+    let a = desk_text::put_decimal(to, at, came.number as u64);
+    let b = desk_text::put_byte(to, a, b' ');
+    let c = desk_text::put_decimal(to, b, came.read as u64);
+    let d = desk_text::put_byte(to, c, b' ');
+    let e = desk_text::put_decimal(to, d, came.written as u64);
+    desk_text::put_byte(to, e, b'\n')
+}
+
+// Answers what has come, as far as the lines have room. A refusal ends the run.
+fn turn(
+    f: Run,
+    w: &mut [u64; WORDS],
+    ring: &mut [u8],
+    s: &[u8],
+    step: usize,
+    out: &mut [u8],
+    to: &mut [u8],
+) -> Run {
     let last = f.come > s.len();
     let window = part(s, f.at, if last { s.len() } else { f.come });
-    let served = desk_stream::serve(next, ring, window, f.at as u64, last, out);
-    let next = served.next;
-    let is_dry = desk_stream::has_room(served.filled, out.len());
+    let came = desk_stream::serve(w, ring, window, f.at as u64, last, out);
+    let is_dry = desk_line::has_room(came.written, out.len());
+    let said = desk_text::put_bytes(to, f.said, part(out, 0, came.written));
     Run {
-        next,
-        at: std::num::wrapping_add_usize(f.at, served.at),
+        at: std::num::wrapping_add_usize(f.at, came.read),
         come: grown(is_dry, f.come, step, s.len()),
-        said: desk_text::put_bytes(to, f.said, part(out, 0, served.filled)),
-        over: served.ended | last & is_dry,
+        said: put_refusal(to, said, came),
+        over: came.ended | (came.number > 0) | last & is_dry,
     }
 }
 
-// Answers a stream of which all has come (a step of 0), or which grows by `step` bytes.
+// Answers a stream of which all has come (a step of 0), or which grows by `step` bytes, by a box that starts with these numbers.
 fn gather(
-    r: Record,
+    start: &[u64; WORDS],
     ring: &mut [u8],
     s: &[u8],
     step: usize,
     out: &mut [u8],
     to: &mut [u8],
 ) -> usize {
+    let mut words = *start;
     let mut f = Run {
-        next: r,
         at: 0,
         come: if step == 0 { NOWHERE } else { 0 },
         said: 0,
@@ -60,7 +79,7 @@ fn gather(
     };
     let mut left: usize = 1000000;
     while left > 0 && !f.over {
-        f = turn(f, ring, s, step, out, to);
+        f = turn(f, &mut words, ring, s, step, out, to);
         left -= 1;
     }
     f.said
@@ -75,9 +94,16 @@ fn alike(a: &[u8], b: &[u8]) -> usize {
     i
 }
 
-fn cut(r: Record, ring: &mut [u8], s: &[u8], right: &[u8], step: usize, out: &mut [u8]) -> bool {
+fn cut(
+    start: &[u64; WORDS],
+    ring: &mut [u8],
+    s: &[u8],
+    right: &[u8],
+    step: usize,
+    out: &mut [u8],
+) -> bool {
     let mut said = io::large_buffer();
-    let n = gather(r, ring, s, step, out, &mut said);
+    let n = gather(start, ring, s, step, out, &mut said);
     let at = alike(part(&said, 0, n), right);
     if (at == n) & (at == right.len()) {
         return true;
@@ -90,21 +116,28 @@ fn cut(r: Record, ring: &mut [u8], s: &[u8], right: &[u8], step: usize, out: &mu
 }
 
 // In three rooms, where all before was right.
-fn rooms(a: bool, r: Record, ring: &mut [u8], s: &[u8], right: &[u8], step: usize) -> bool {
+fn rooms(
+    a: bool,
+    start: &[u64; WORDS],
+    ring: &mut [u8],
+    s: &[u8],
+    right: &[u8],
+    step: usize,
+) -> bool {
     let mut large = io::large_buffer();
     let mut one = [0u8; 640];
     let mut some = [0u8; 1000];
     if !a {
         return false;
     }
-    let b = cut(r, ring, s, right, step, &mut large);
-    let c = cut(r, ring, s, right, step, &mut one);
-    b & c & cut(r, ring, s, right, step, &mut some)
+    let b = cut(start, ring, s, right, step, &mut large);
+    let c = cut(start, ring, s, right, step, &mut one);
+    b & c & cut(start, ring, s, right, step, &mut some)
 }
 
-pub fn are_right(r: Record, ring: &mut [u8], s: &[u8], right: &[u8]) -> bool {
-    let a = rooms(true, r, ring, s, right, 0);
-    let b = rooms(a, r, ring, s, right, 1);
-    let c = rooms(b, r, ring, s, right, 7);
-    rooms(c, r, ring, s, right, 300)
+pub fn are_right(start: &[u64; WORDS], ring: &mut [u8], s: &[u8], right: &[u8]) -> bool {
+    let a = rooms(true, start, ring, s, right, 0);
+    let b = rooms(a, start, ring, s, right, 1);
+    let c = rooms(b, start, ring, s, right, 7);
+    rooms(c, start, ring, s, right, 300)
 }

@@ -6,7 +6,7 @@ use crate::files::behind;
 use crate::files::part;
 use crate::say;
 use crate::say_count;
-use rules::Record;
+use stored::WORDS;
 
 // How many records are whole, and the place behind them: a bad one's, or the end.
 struct Reach {
@@ -103,14 +103,22 @@ fn tell(is_right: bool, c: Spot) {
 }
 
 // Tries a damaged stream: what stands before the damaged record is answered as before, and the rest as the walk tells.
-fn tried(r: Record, ring: &mut [u8], s: &[u8], right: &[u8], c: Spot, t: Tally) -> Tally {
+fn tried(
+    start: &[u64; WORDS],
+    ring: &mut [u8],
+    s: &[u8],
+    right: &[u8],
+    c: Spot,
+    t: Tally,
+) -> Tally {
     let before = walk(part(s, 0, c.at));
     let w = walk(s);
     let is_bad = w.at < s.len();
     let mut out = [0u8; 16384];
-    let served = desk_stream::serve(r, ring, s, 0, true, &mut out);
-    let is_reached = (served.at == w.at) & (served.ended == is_bad) & (before.at <= w.at);
-    let said = part(&out, 0, served.filled);
+    let mut words = *start;
+    let came = desk_stream::serve(&mut words, ring, s, 0, true, &mut out);
+    let is_reached = (came.read == w.at) & (came.ended == is_bad) & (before.at <= w.at);
+    let said = part(&out, 0, came.written);
     let mut all = t;
     all.right = is_reached & is_told(said, right, before.records, w, is_bad);
     tell(all.right, c);
@@ -135,14 +143,21 @@ fn onward(c: Spot, every: u64, len: usize) -> Spot {
 }
 
 // Tries a stream in cuts, and where `every` is not 0 with damage.
-pub fn hold(r: Record, ring: &mut [u8], s: &mut [u8], right: &[u8], every: u64, t: Tally) -> Tally {
+pub fn hold(
+    start: &[u64; WORDS],
+    ring: &mut [u8],
+    s: &mut [u8],
+    right: &[u8],
+    every: u64,
+    t: Tally,
+) -> Tally {
     let mut all = t;
-    all.right = are_right(r, ring, s, right);
+    all.right = are_right(start, ring, s, right);
     let mut c = Spot { at: 0, bits: 0 };
     let mut left: usize = 1000000;
     while left > 0 && every > 0 && all.right && c.at <= s.len() {
         flip(s, c);
-        all = tried(r, ring, shown(s, c), right, c, all);
+        all = tried(start, ring, shown(s, c), right, c, all);
         flip(s, c);
         c = onward(c, every, s.len());
         left -= 1;

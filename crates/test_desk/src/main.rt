@@ -3,6 +3,7 @@
 //     edges/ring_1 .hex 1 fresh 0
 //
 // The stream is in edges/ring_1.hex, its right lines are in edges/ring_1.txt; the ring has 1 byte, and the record is a fresh one.
+// Where the record is not sound with the ring the one line is `604 0 0`: nothing is read, and nothing written.
 // Each stream is answered in cuts. Where the last number is not 0, so is each of its prefixes, and the stream with one byte changed:
 // each byte in turn (1), or every seventh (7).
 use files::behind;
@@ -13,6 +14,7 @@ use rules::Failure;
 use rules::Record;
 use rules::Scan;
 use rules::Scanner;
+use stored::WORDS;
 
 mod cuts;
 mod damage;
@@ -84,7 +86,16 @@ fn read(name: &[u8], kind: &[u8], len: u64, r: Record, every: u64, t: Tally) -> 
     }
     let len = len as usize;
     let text = part(&right, 0, m);
-    damage::hold(r, &mut ring[from..len], &mut input[from..n], text, every, t)
+    let mut words = [0u64; WORDS];
+    stored::keep(&mut words, r);
+    damage::hold(
+        &words,
+        &mut ring[from..len],
+        &mut input[from..n],
+        text,
+        every,
+        t,
+    )
 }
 
 // The case at a place of the list. Where it differs is told before its name.

@@ -6,7 +6,7 @@ use crate::guide::{Guide, Mix};
 use crate::rng::Rng;
 use crate::start::{offset, ring_length, sound_words};
 use crate::wire::{Difference, Kind, Words};
-use peer::{Record, RING_MOST, WORDS};
+use peer::{Record, RING_MOST, VERSION, WORDS};
 use std::time::Instant;
 
 /// So many base records at least, whatever the time.
@@ -75,9 +75,12 @@ fn changes(trial: &mut Trial, mut rng: Rng, fill: u64, counts: &mut Counts) -> R
             1 => rng.draw() >> rng.below(64),
             _ => words[field],
         });
-        attempt(rng, some, ring_length)?;
         let random = std::array::from_fn(|_| rng.draw());
-        attempt(rng, random, ring_length)?;
+        // Mostly of the right version: with another one nothing else matters.
+        for words in [some, random] {
+            let version = if rng.chance(80) { VERSION } else { words[0] };
+            attempt(rng, changed(words, 0, version), ring_length)?;
+        }
     }
     Ok(())
 }
@@ -131,6 +134,9 @@ fn some_value(rng: &mut Rng, base: &Start, field: usize) -> u64 {
 /// All four entries with these words, each on its own. What is not sound is 604, what is sound is not.
 fn try_entries(trial: &mut Trial, rng: &mut Rng, counts: &mut Counts, start: &Start) -> Result<(), Differs> {
     let sound = start.is_sound();
+    if (Start { words: changed(start.words, 0, VERSION), ..*start }).is_sound() {
+        trial.tally.note_version(start.words[0]);
+    }
     counts.tried += 1;
     counts.sound += sound as u64;
     counts.malformed += Record::from_words(&start.words).is_none() as u64;

@@ -1,13 +1,9 @@
 -- A fresh record's numbers.
 use mathlib.Core.Path.{ap, _∙_}
-use Rattle.host_record.specs.Stored.{kept}
+use Rattle.stored.specs.Stored.{kept}
 use borrow.Author.Needs.{needs}
 use Rattle.bench_box.proofs.bench_box_fresh.Statement.{statement}
 use Rattle.bench_box.proofs.bench_box_fresh.Tie as tie
-use Rattle.bench_box.proofs.bench_box_fresh.Reads as reads
-use Rattle.bench_box.proofs.bench_box_fresh.Lts as lts
-use Rattle.rules.proofs.Record.fresh.Reads as fresh-reads
-use Rattle.host_record.proofs.keep.Reads as keep-reads
 
 fresh-requires : tie.Need-fresh-requires
 fresh-requires c κs = search needs

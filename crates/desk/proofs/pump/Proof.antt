@@ -5,20 +5,13 @@ use borrow.Author.Needs.{needs}
 use lib.ListN.{length}
 use Rattle.desk.proofs.pump.Statement.{statement}
 use Rattle.desk.proofs.pump.Tie as tie
-use Rattle.desk.proofs.pump.Reads as reads
-use Rattle.desk.proofs.pump.Lts as lts
-use Rattle.desk.proofs.turn.Reads as turn-reads
-use Rattle.rules.proofs.Record.fresh.Reads as fresh-reads
 
 abbrev Inv-loop : tie.InvT-loop
-Inv-loop buf₀ ring₀ out₀ f₀ turns₀ buf ring out f turns =
+Inv-loop w₀ buf₀ ring₀ out₀ f₀ turns₀ w buf ring out f turns =
     ((length buf ≡ length buf₀) × (length ring ≡ length ring₀) × (length out ≡ length out₀)) × ((f .at ≤ f .held) × (f .held ≤ length buf))
 
 abbrev μ-loop : tie.MeasureT-loop
-μ-loop buf₀ ring₀ out₀ f₀ turns₀ buf ring out f turns = turns
-
-fresh-requires : tie.Need-fresh-requires Inv-loop μ-loop
-fresh-requires c κs = search needs
+μ-loop w₀ buf₀ ring₀ out₀ f₀ turns₀ w buf ring out f turns = turns
 
 loop-holds : tie.Need-loop-holds Inv-loop μ-loop
 loop-holds c = search needs
@@ -65,7 +58,6 @@ pump-spec =
     (tie.spec
     Inv-loop
     μ-loop
-    fresh-requires
     loop-holds
     turn-requires
     sub-turns

@@ -1,4 +1,5 @@
 -- One part behind the other.
+use native.Mathlib.Omega.{arith}
 use borrow.Author.Needs.{needs}
 use Rattle.desk_text.proofs.Putting.{then}
 use Rattle.desk_line.proofs.put_head.Statement.{statement}
@@ -21,7 +22,7 @@ returns c =
     let states = c .before .before in
     let number = states .before .before .before .before in
     let kind = number .before .before .before .before in
-    then (then (kind .put-kind .ensures) (number .put-number .ensures)) (states .put-states .ensures)
+    (then (then (kind .put-kind .ensures .0) (number .put-number .ensures .0)) (states .put-states .ensures .0), omega arith)
 
 pub put-head-spec : {M : Type 1} → statement M
 put-head-spec =

@@ -1,39 +1,24 @@
--- One part behind the other, and the parts in a row are the line (`Lines`).
-use Rattle.desk_line.proofs.Lines.{line-put}
+-- Nothing where the test of the room fails; else the line, which has room.
 use borrow.Author.Needs.{needs}
+use Rattle.desk_line.proofs.Room.{has-room, roomed-line, roomed-none}
 use Rattle.desk_line.proofs.put_line.Statement.{statement}
 use Rattle.desk_line.proofs.put_line.Tie as tie
 
-put-head-requires : tie.Need-put-head-requires
-put-head-requires c κs = search needs
+has-room-requires : tie.Need-has-room-requires
+has-room-requires c κs = search needs
 
-put-counts-requires : tie.Need-put-counts-requires
-put-counts-requires c κs = search needs
+returns : tie.Need-returns
+returns c = search (needs, roomed-none)
 
-put-extra-requires : tie.Need-put-extra-requires
-put-extra-requires c κs = search needs
-
-put-byte-requires : tie.Need-put-byte-requires
-put-byte-requires c κs = search needs
+set-line-requires : tie.Need-set-line-requires
+set-line-requires c κs = search (needs, has-room)
 
 same-length : tie.Need-same-length
 same-length c = search needs
 
-returns : tie.Need-returns
-returns c =
-    let end = c .before .before in
-    let extra = end .before .before .before .before in
-    let counts = extra .before .before .before .before in
-    let head = counts .before .before .before .before in
-    line-put _ _ _ _ (head .put-head .ensures) (counts .put-counts .ensures) (extra .put-extra .ensures) (end .put-byte .ensures)
+returns-2 : tie.Need-returns-2
+returns-2 c = search (needs, roomed-line)
 
 pub put-line-spec : {M : Type 1} → statement M
 put-line-spec =
-    tie.close
-    (tie.spec
-    put-head-requires
-    put-counts-requires
-    put-extra-requires
-    put-byte-requires
-    same-length
-    returns)
+    tie.close (tie.spec has-room-requires returns set-line-requires same-length returns-2)

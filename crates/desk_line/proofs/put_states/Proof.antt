@@ -1,4 +1,5 @@
 -- One letter behind the other.
+use native.Mathlib.Omega.{arith}
 use borrow.Author.Needs.{needs}
 use Rattle.desk_text.proofs.Putting.{then}
 use Rattle.desk_line.proofs.put_states.Statement.{statement}
@@ -23,7 +24,8 @@ returns : tie.Need-returns
 returns c =
     let feed = c .before .before in
     let scan = feed .before .before .before .before .before in
-    rw (← feed .before .feed-letter .ensures, ← scan .before .scan-letter .ensures) (then (scan .put-letter .ensures) (feed .put-letter2 .ensures))
+    let letters = then (scan .put-letter .ensures .0) (feed .put-letter2 .ensures .0) in
+    (rw (← feed .before .feed-letter .ensures, ← scan .before .scan-letter .ensures) letters, omega arith)
 
 pub put-states-spec : {M : Type 1} → statement M
 put-states-spec =

@@ -1,6 +1,8 @@
 -- The call's outcome, whatever the reply held, and its line.
-use Rattle.answers.specs.Told.{stateOf}
-use Rattle.desk_stream.proofs.Replies.{answered-state, answered-line, answered-number}
+use mathlib.Core.Path.{refl}
+use Rattle.desk_text.proofs.Putting.{moved}
+use Rattle.desk_line.proofs.Room.{roomed-whole}
+use Rattle.desk_stream.proofs.Replies.{answered-turn}
 use borrow.Author.Needs.{needs}
 use Rattle.desk_stream.proofs.answer.Statement.{statement}
 use Rattle.desk_stream.proofs.answer.Tie as tie
@@ -10,6 +12,9 @@ perform-requires c κs = search needs
 
 number-requires : tie.Need-number-requires
 number-requires c κs = search needs
+
+load-requires : tie.Need-load-requires
+load-requires c κs = search needs
 
 put-line-requires : tie.Need-put-line-requires
 put-line-requires c κs = search needs
@@ -25,22 +30,14 @@ same-length-3 c = search needs
 
 returns : tie.Need-returns
 returns c =
-    let lined = c .before .before in
-    let told = lined .before .before .before in
-    let after = told .before .before .before .before .before .before in
-    let p = after .perform in
-    let a = after .before .before .before .before .before .before .before .args in
-    let reply = p .last .1 .1 .1 .1 .0 in
-    let box = stateOf (a .r) (a .ring .now) in
-    let e = p .ensures .0 in (
-      answered-state box (a .request) (a .given .now) (a .reply .now) reply (p .last .1 .0) (p .result) e,
+    let start = c .before .before .before .before .before .before .before .before .before .before .before .before .before .before .before .before .before .before .before .before in
+    let a = start .args in
+    let works = c .before .before .before .before .before .before .before .before .before .before .before .before .perform .ensures (start .pre .0) in (
+      refl,
       (
-        answered-line box (a .request) (a .given .now) (a .reply .now) reply (p .last .1 .0) (p .result) e (a .kind) (told .number .ensures)
-            (lined .put-line .ensures),
-        (
-          answered-number box (a .request) (a .given .now) (a .reply .now) reply (p .last .1 .0) (p .result) e (told .number .ensures),
-          p .ensures .1,
-        ),
+        answered-turn (a .request) (a .given .now) (a .w .now) (a .ring .now) (a .reply .now) (start .pre .0) works (a .kind) (c .before .before .before .before .before .load .ensures)
+            (c .before .before .before .before .before .before .before .number .ensures) (moved (c .before .before .put-line .ensures) (roomed-whole _ _ _ (start .pre .1))),
+        works .replies,
       ),
     )
 
@@ -50,6 +47,7 @@ answer-spec =
     (tie.spec
     perform-requires
     number-requires
+    load-requires
     put-line-requires
     same-length
     same-length-2

@@ -1,22 +1,23 @@
--- Each turn serves one record; every way out holds what the whole window gives.
+-- Each turn serves one piece; every way out holds what the whole window gives.
 use Prim.Native.Nat.{_-_}
-use borrow.Author.Needs.{needs}
 use lib.ListN.{length}
-use mathlib.Core.Path.{sym, _∙_}
-use Rattle.desk_stream.proofs.Hearing.{heard-bad}
+use Rattle.desk_line.proofs.Room.{has-room}
 use Rattle.desk_stream.proofs.Serving.{Serving, serving-begins, serving-full, serving-over, serving-stops, serving-less, serving-again}
+use borrow.Author.Needs.{needs}
 use Rattle.desk_stream.proofs.serve_with.Statement.{statement}
 use Rattle.desk_stream.proofs.serve_with.Tie as tie
 
 abbrev Inv-loop : tie.InvT-loop
-Inv-loop ring₀ reply₀ s base last out₀ next₀ at₀ filled₀ ring reply out next at filled =
-    Serving s base last ring₀ reply₀ out₀ next₀ ring reply out next at filled
+Inv-loop w₀ ring₀ reply₀ s base last out₀ at₀ filled₀ w ring reply out at filled = Serving s base last w₀ ring₀ reply₀ out₀ w ring reply out at filled
 
 abbrev μ-loop : tie.MeasureT-loop
-μ-loop ring₀ reply₀ s base last out₀ next₀ at₀ filled₀ ring reply out next at filled = length s - at
+μ-loop w₀ ring₀ reply₀ s base last out₀ at₀ filled₀ w ring reply out at filled = length s - at
+
+count-requires : tie.Need-count-requires Inv-loop μ-loop
+count-requires c κs = search needs
 
 loop-holds : tie.Need-loop-holds Inv-loop μ-loop
-loop-holds c = serving-begins (c .before .before .before .before .pre)
+loop-holds c = let start = c .before .before .before .before .before .before in serving-begins (start .pre .0) (start .pre .1) (c .count .ensures)
 
 has-room-requires : tie.Need-has-room-requires Inv-loop μ-loop
 has-room-requires c κs = search needs
@@ -31,21 +32,12 @@ same-length-3 : tie.Need-same-length-3 Inv-loop μ-loop
 same-length-3 c = search needs
 
 returns : tie.Need-returns Inv-loop μ-loop
-returns c =
-    let room = c .before in
-    serving-full (room .before .before .loop .inv) (room .has-room .ensures) (c .if1 .taken)
+returns c = serving-full (c .before .before .before .loop .inv) (c .before .has-room .ensures) (c .if1 .taken)
 
-hear-requires : tie.Need-hear-requires Inv-loop μ-loop
-hear-requires c κs = search needs
-
-enum-known-hearing : tie.Need-enum-known-hearing Inv-loop μ-loop
-enum-known-hearing c = search needs
-
-enum-told : tie.Need-enum-told Inv-loop μ-loop
-enum-told c = search needs
-
-stop-requires : tie.Need-stop-requires Inv-loop μ-loop
-stop-requires c κs = search needs
+turn-requires : tie.Need-turn-requires Inv-loop μ-loop
+turn-requires c κs =
+    let at = c .before .before .before .before .before .before .before in
+    (at .loop .inv .box, has-room _ _ _ (c .before .before .before .before .before .has-room .ensures) (c .before .before .before .before .if1 .left))
 
 same-length-4 : tie.Need-same-length-4 Inv-loop μ-loop
 same-length-4 c = search needs
@@ -58,41 +50,24 @@ same-length-6 c = search needs
 
 returns-2 : tie.Need-returns-2 Inv-loop μ-loop
 returns-2 c =
-    let stop = c .before .before in
-    let told = stop .before .before in
-    let hear = told .before .before in
-    let room = hear .before .before in
-    let here = room .before in
-    let r = stop .stop .ensures in
-    serving-stops (here .before .loop .inv) (here .loop-test .taken) (room .has-room .ensures) (hear .before .if1 .left)
-    (heard-bad _ _ (sym (hear .hear .ensures) ∙ told .enum-told .given .1)) _ _ _ _ _ (r .0) (r .1 .0) (r .1 .1 .0) (r .1 .1 .1)
-
-payload-requires : tie.Need-payload-requires Inv-loop μ-loop
-payload-requires c κs = search needs
-
-given-requires : tie.Need-given-requires Inv-loop μ-loop
-given-requires c κs = search needs
-
-answer-requires : tie.Need-answer-requires Inv-loop μ-loop
-answer-requires c κs = search needs
+    let turn = c .before .before .before .before .before .before .before .before in
+    let room = c .before .before .before .before .before .before .before .before .before .before .before .before .before .before in
+    serving-stops (room .before .before .loop .inv) (room .before .loop-test .taken) (room .has-room .ensures) (c .before .before .before .before .before .before .before .before .before .before .before .before .before .if1 .left)
+    (turn .turn .ensures .0) (turn .turn .ensures .1 .0) (c .if2 .taken)
 
 loop-less : tie.Need-loop-less Inv-loop μ-loop
 loop-less c =
-    let answer = c .before .before .before .before .before .before .before in
-    let told = answer .before .before .before .before .before .before .before in
-    let room = told .before .before .before .before in
-    serving-less (room .before .before .loop .inv) (room .before .loop-test .taken) (room .has-room .ensures) (told .before .before .before .if1 .left)
-    (sym (told .before .before .hear .ensures) ∙ told .hearing .given .1)
+    let turn = c .before .before .before .before .before .before .before .before in
+    let room = c .before .before .before .before .before .before .before .before .before .before .before .before .before .before in
+    serving-less (room .before .before .loop .inv) (room .before .loop-test .taken) (room .has-room .ensures) (c .before .before .before .before .before .before .before .before .before .before .before .before .before .if1 .left)
+    (turn .turn .ensures .0) (turn .turn .ensures .1 .0) (c .if2 .left)
 
 loop-again : tie.Need-loop-again Inv-loop μ-loop
 loop-again c =
-    let answer = c .before .before .before .before .before .before .before in
-    let given = answer .before .before .before .before in
-    let told = given .before .before .before in
-    let room = told .before .before .before .before in
-    serving-again (room .before .before .loop .inv) (room .before .loop-test .taken) (room .has-room .ensures) (told .before .before .before .if1 .left)
-    (sym (told .before .before .hear .ensures) ∙ told .hearing .given .1) _ (given .before .payload .ensures) _ (given .given .ensures)
-    _ _ _ _ _ (answer .answer .ensures .0) (answer .answer .ensures .1 .0) (search needs) (search needs)
+    let turn = c .before .before .before .before .before .before .before .before in
+    let room = c .before .before .before .before .before .before .before .before .before .before .before .before .before .before in
+    serving-again (room .before .before .loop .inv) (room .before .loop-test .taken) (room .has-room .ensures) (c .before .before .before .before .before .before .before .before .before .before .before .before .before .if1 .left)
+    (turn .turn .ensures .0) (turn .turn .ensures .1 .0) (c .if2 .left) (search needs) (search needs)
 
 same-length-7 : tie.Need-same-length-7 Inv-loop μ-loop
 same-length-7 c = search needs
@@ -112,23 +87,18 @@ serve-with-spec =
     (tie.spec
     Inv-loop
     μ-loop
+    count-requires
     loop-holds
     has-room-requires
     same-length
     same-length-2
     same-length-3
     returns
-    hear-requires
-    enum-known-hearing
-    enum-told
-    stop-requires
+    turn-requires
     same-length-4
     same-length-5
     same-length-6
     returns-2
-    payload-requires
-    given-requires
-    answer-requires
     loop-less
     loop-again
     same-length-7

@@ -3,15 +3,10 @@ use Prim.Native.Nat.{_+_}
 use mathlib.Core.Path.{refl}
 use Rattle.desk_records.specs.Reading.{cutAt}
 use Rattle.desk_stream.specs.Desk.{badText}
-use Rattle.desk_stream.proofs.Serving.{stop-waits, stop-bad}
+use Rattle.desk_stream.proofs.Pieces.{stop-waits, stop-bad}
 use borrow.Author.Needs.{needs}
 use Rattle.desk_stream.proofs.stop.Statement.{statement}
 use Rattle.desk_stream.proofs.stop.Tie as tie
-use Rattle.desk_stream.proofs.stop.Reads as reads
-use Rattle.desk_stream.proofs.stop.Lts as lts
-use Rattle.desk_records.proofs.read.is_cut.Reads as is-cut-reads
-use Rattle.std.proofs.num.wrapping_add_u64.Reads as wrapping-add-u64-reads
-use Rattle.desk_stream.proofs.put_bad.Reads as put-bad-reads
 
 is-cut-requires : tie.Need-is-cut-requires
 is-cut-requires c κs = search needs

@@ -6,7 +6,7 @@ use borrow.Rule.Slice.PartMut.{putMid}
 use borrow.Author.Needs.{needs}
 use lib.ListN.{length, length-set}
 use Rattle.rules.specs.Moves.{headed}
-use Rattle.fetch.proofs.Handed.{marked, marked-long, moved-count, reply-made}
+use Rattle.fetch.proofs.Handed.{marked, marked-long, moved-count, goes-most, reply-made}
 use Rattle.fetch.proofs.move_out.Statement.{statement}
 use Rattle.fetch.proofs.move_out.Tie as tie
 
@@ -36,8 +36,7 @@ cast-reply c =
     let start = c .before .before .before .before .before .before in
     let a = start .args in
     let out = c .before .before .take-out .ensures in
-    let k = moved-count (length (a .ring .now)) (a .start) (a .want) _ (a .reply .now) (start .pre .0) (start .pre .1) (out .0) in
-    omega (arith, k, start .pre .2)
+    omega (arith, goes-most (length (a .ring .now)) (a .start) (a .want) _ _ (out .0), start .pre .0)
 
 slice-write-reply-4 : tie.Need-slice-write-reply-4
 slice-write-reply-4 c =
@@ -55,8 +54,8 @@ returns c =
     let start = c .before .before .before .before .before .before in
     let a = start .args in
     let out = c .before .before .take-out .ensures in
-    let k = moved-count (length (a .ring .now)) (a .start) (a .want) _ (a .reply .now) (start .pre .0) (start .pre .1) (out .0) in
-    (k, reply-made (a .ring .now) (a .reply .now) _ (a .start) (a .want) _ (start .pre .3) (out .0) (out .1))
+    let k = moved-count (length (a .ring .now)) (a .start) (a .want) _ (a .reply .now) (out .0) in
+    (k, reply-made (a .ring .now) (a .reply .now) _ (a .start) (a .want) _ (start .pre .1) (out .0) (out .1))
 
 pub move-out-spec : {M : Type 1} → statement M
 move-out-spec =

@@ -1,6 +1,6 @@
 -- The test decides whether the drain step follows (`Handed`).
 use mathlib.Core.Path.{sym, _∙_}
-use Rattle.fetch.proofs.Handed.{noted-last, noted-more, has-all}
+use Rattle.fetch.proofs.Handed.{noted-last, noted-more}
 use borrow.Author.Needs.{needs}
 use Rattle.fetch.proofs.note.Statement.{statement}
 use Rattle.fetch.proofs.note.Tie as tie
@@ -25,9 +25,8 @@ told-requires c κs = search needs
 
 returns : tie.Need-returns
 returns c =
-    let start = c .before .before .before .before .before .before .before in
-    let has = has-all _ _ _ (start .pre .0) (start .pre .1) (start .pre .2) in
     let left = c .before .before .before .before .before .leave .ensures in
+    λ has.
     rw (c .told .ensures, c .before .drain .ensures, c .before .before .before .before .hear .ensures, left)
     (noted-last _ _ _ has (rw (sym left) (sym (c .before .before .before .is-last .ensures)) ∙ c .before .before .if1 .taken))
 
@@ -39,9 +38,8 @@ told-requires-2 c κs = search needs
 
 returns-2 : tie.Need-returns-2
 returns-2 c =
-    let start = c .before .before .before .before .before .before in
-    let has = has-all _ _ _ (start .pre .0) (start .pre .1) (start .pre .2) in
     let left = c .before .before .before .before .leave .ensures in
+    λ has.
     rw (c .told2 .ensures, c .before .before .before .hear .ensures, left)
     (noted-more _ _ _ has (rw (sym left) (sym (c .before .before .is-last .ensures)) ∙ c .before .if1 .left))
 

@@ -1,6 +1,7 @@
--- Each return walks the call's refusals up to the test that answered (`Leads`).
-use Rattle.answers.proofs.Leads.{leads, accept, hit, skip, tests}
-use Rattle.rules.specs.Machine.{step, refusals, feederRefusals, effect, feederEffect}
+-- An unsound record stops at the first line (`Leads`); a sound one is the inner function's.
+use Rattle.answers.proofs.Leads.{leads, hit, tests}
+use Rattle.rules.specs.Machine.{step}
+use Rattle.rules.proofs.Guards.{went-on}
 use borrow.Author.Needs.{needs}
 use Rattle.feeder.proofs.mode.get_feeder_mode.Statement.{statement}
 use Rattle.feeder.proofs.mode.get_feeder_mode.Tie as tie
@@ -12,16 +13,25 @@ refused-requires : tie.Need-refused-requires
 refused-requires c κs = search needs
 
 returns : tie.Need-returns
-unfolding step refusals feederRefusals effect feederEffect
+unfolding step
 returns c = rw (c .refused .ensures) (leads (hit (search tests)))
+
+get-feeder-mode-sound-requires : tie.Need-get-feeder-mode-sound-requires
+get-feeder-mode-sound-requires c κs = search needs
 
 told-requires : tie.Need-told-requires
 told-requires c κs = search needs
 
 returns-2 : tie.Need-returns-2
-unfolding step refusals feederRefusals effect feederEffect
-returns-2 c = rw (c .told .ensures) (leads (skip (search tests) accept))
+returns-2 c = rw (c .told .ensures) (c .before .get-feeder-mode-sound .ensures (search went-on))
 
 pub get-feeder-mode-spec : {M : Type 1} → statement M
 get-feeder-mode-spec =
-    tie.close (tie.spec sound-with-requires refused-requires returns told-requires returns-2)
+    tie.close
+    (tie.spec
+    sound-with-requires
+    refused-requires
+    returns
+    get-feeder-mode-sound-requires
+    told-requires
+    returns-2)

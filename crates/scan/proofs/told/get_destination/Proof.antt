@@ -1,6 +1,7 @@
--- Each return walks the call's refusals up to the test that answered (`Leads`).
-use Rattle.answers.proofs.Leads.{leads, accept, hit, skip, tests}
-use Rattle.rules.specs.Machine.{step, refusals, scanRefusals, effect, scanEffect}
+-- An unsound record stops at the first line (`Leads`); a sound one is the inner function's.
+use Rattle.answers.proofs.Leads.{leads, hit, tests}
+use Rattle.rules.specs.Machine.{step}
+use Rattle.rules.proofs.Guards.{went-on}
 use borrow.Author.Needs.{needs}
 use Rattle.scan.proofs.told.get_destination.Statement.{statement}
 use Rattle.scan.proofs.told.get_destination.Tie as tie
@@ -12,25 +13,17 @@ refused-requires : tie.Need-refused-requires
 refused-requires c κs = search needs
 
 returns : tie.Need-returns
-unfolding step refusals scanRefusals effect scanEffect
+unfolding step
 returns c = rw (c .refused .ensures) (leads (hit (search tests)))
 
-not-held-requires : tie.Need-not-held-requires
-not-held-requires c κs = search needs
-
-refused-requires-2 : tie.Need-refused-requires-2
-refused-requires-2 c κs = search needs
-
-returns-2 : tie.Need-returns-2
-unfolding step refusals scanRefusals effect scanEffect
-returns-2 c = rw (c .refused2 .ensures) (leads (skip (search tests) (hit (search tests))))
+get-destination-sound-requires : tie.Need-get-destination-sound-requires
+get-destination-sound-requires c κs = search needs
 
 told-requires : tie.Need-told-requires
 told-requires c κs = search needs
 
-returns-3 : tie.Need-returns-3
-unfolding step refusals scanRefusals effect scanEffect
-returns-3 c = rw (c .told .ensures) (leads (skip (search tests) (skip (search tests) accept)))
+returns-2 : tie.Need-returns-2
+returns-2 c = rw (c .told .ensures) (c .before .get-destination-sound .ensures (search went-on))
 
 pub get-destination-spec : {M : Type 1} → statement M
 get-destination-spec =
@@ -39,8 +32,6 @@ get-destination-spec =
     sound-with-requires
     refused-requires
     returns
-    not-held-requires
-    refused-requires-2
-    returns-2
+    get-destination-sound-requires
     told-requires
-    returns-3)
+    returns-2)

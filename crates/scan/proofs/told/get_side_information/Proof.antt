@@ -1,6 +1,7 @@
--- Each return walks the call's refusals up to the test that answered (`Leads`).
-use Rattle.answers.proofs.Leads.{leads, accept, hit, skip, tests}
-use Rattle.rules.specs.Machine.{step, refusals, scanRefusals, effect, scanEffect}
+-- An unsound record stops at the first line (`Leads`); a sound one is the inner function's.
+use Rattle.answers.proofs.Leads.{leads, hit, tests}
+use Rattle.rules.specs.Machine.{step}
+use Rattle.rules.proofs.Guards.{went-on}
 use borrow.Author.Needs.{needs}
 use Rattle.scan.proofs.told.get_side_information.Statement.{statement}
 use Rattle.scan.proofs.told.get_side_information.Tie as tie
@@ -12,16 +13,25 @@ refused-requires : tie.Need-refused-requires
 refused-requires c κs = search needs
 
 returns : tie.Need-returns
-unfolding step refusals scanRefusals effect scanEffect
+unfolding step
 returns c = rw (c .refused .ensures) (leads (hit (search tests)))
+
+get-side-information-sound-requires : tie.Need-get-side-information-sound-requires
+get-side-information-sound-requires c κs = search needs
 
 told-requires : tie.Need-told-requires
 told-requires c κs = search needs
 
 returns-2 : tie.Need-returns-2
-unfolding step refusals scanRefusals effect scanEffect
-returns-2 c = rw (c .told .ensures) (leads (skip (search tests) accept))
+returns-2 c = rw (c .told .ensures) (c .before .get-side-information-sound .ensures (search went-on))
 
 pub get-side-information-spec : {M : Type 1} → statement M
 get-side-information-spec =
-    tie.close (tie.spec sound-with-requires refused-requires returns told-requires returns-2)
+    tie.close
+    (tie.spec
+    sound-with-requires
+    refused-requires
+    returns
+    get-side-information-sound-requires
+    told-requires
+    returns-2)

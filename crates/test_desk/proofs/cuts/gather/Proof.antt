@@ -6,11 +6,11 @@ use Rattle.test_desk.proofs.cuts.gather.Statement.{statement}
 use Rattle.test_desk.proofs.cuts.gather.Tie as tie
 
 abbrev Inv-loop : tie.InvT-loop
-Inv-loop ring₀ s step out₀ to₀ f₀ left₀ ring out to f left =
+Inv-loop start ring₀ s step out₀ to₀ words₀ f₀ left₀ ring out to words f left =
     (length ring ≡ length ring₀) × (length out ≡ length out₀) × (length to ≡ length to₀)
 
 abbrev μ-loop : tie.MeasureT-loop
-μ-loop ring₀ s step out₀ to₀ f₀ left₀ ring out to f left = left
+μ-loop start ring₀ s step out₀ to₀ words₀ f₀ left₀ ring out to words f left = left
 
 loop-holds : tie.Need-loop-holds Inv-loop μ-loop
 loop-holds c = search needs

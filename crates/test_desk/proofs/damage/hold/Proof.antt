@@ -6,10 +6,10 @@ use Rattle.test_desk.proofs.damage.hold.Statement.{statement}
 use Rattle.test_desk.proofs.damage.hold.Tie as tie
 
 abbrev Inv-loop : tie.InvT-loop
-Inv-loop r ring₀ s₀ right every all₀ c₀ left₀ ring s all c left = (length ring ≡ length ring₀) × (length s ≡ length s₀)
+Inv-loop start ring₀ s₀ right every all₀ c₀ left₀ ring s all c left = (length ring ≡ length ring₀) × (length s ≡ length s₀)
 
 abbrev μ-loop : tie.MeasureT-loop
-μ-loop r ring₀ s₀ right every all₀ c₀ left₀ ring s all c left = left
+μ-loop start ring₀ s₀ right every all₀ c₀ left₀ ring s all c left = left
 
 are-right-requires : tie.Need-are-right-requires Inv-loop μ-loop
 are-right-requires c κs = search needs
