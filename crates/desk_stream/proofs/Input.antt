@@ -8,7 +8,8 @@ use Rattle.rules.specs.Calls.{Call, State}
 use Rattle.rules.specs.Machine.{step, runBy, run}
 use Rattle.answers.specs.declared.Request.{Request}
 use Rattle.desk_line.specs.Line.{lineFor}
-use Rattle.desk_stream.specs.Desk.{Heard, calling, wrong, hears, deskCall, Records, ends, before, badAt, readOn, readFrom, badText, endText, linesOf, printed}
+use Rattle.desk_stream.specs.Desk.{Heard, calling, wrong, hears, deskCall, Records, ends}
+use Rattle.desk_stream.specs.Desk.{before, badAt, readOn, readFrom, badText, endText, linesOf, printed}
 
 -- what is printed from an offset on, for a box
 abbrev pub textFrom : State → ℕ → List ℕ → List ℕ

@@ -131,7 +131,12 @@ module _ {s : List ℕ} {base : ℕ} {last : Bool} {ws₀ ring₀ reply₀ out�
       short : length (here .text ++ p .text) ≤ length out₀
       short =
           simp length-append
-          (omega (arith, leb-true (length (here .text) + lineRoom) (length out₀) room-left, piece-short (base + at) last (stateOf (recorded ws) ring) (drop at s)))
+          (omega (
+            arith,
+            leb-true (length (here .text) + lineRoom) (length out₀) room-left,
+            piece-short (base + at) last (stateOf (recorded ws) ring)
+                (drop at s),
+          ))
 
       reaches : at + p .size ≤ length s
       reaches = omega (arith, piece-inside (base + at) last (stateOf (recorded ws) ring) (drop at s) replyRoom, length-drop at s)

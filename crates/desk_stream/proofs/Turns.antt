@@ -10,7 +10,8 @@ use Rattle.rules.specs.Calls.{Outcome}
 use Rattle.rules.specs.Machine.{step}
 use Rattle.answers.specs.declared.Request.{Request}
 use Rattle.desk_stream.specs.Desk.{Heard, calling, wrong, hears, replyRoom, deskCall, badText}
-use Rattle.desk_stream.specs.Window.{Piece, answeredBy, brokenAt, waitingIn, waits, unheardIn, pieceOf, piece, Progress, took, onward, turned, roomy, served}
+use Rattle.desk_stream.specs.Window.{Piece, answeredBy, brokenAt, waitingIn, waits, unheardIn, pieceOf}
+use Rattle.desk_stream.specs.Window.{piece, Progress, took, onward, turned, roomy, served}
 
 -- a record answered, and a bad one
 abbrev pub answered : ℕ → Outcome → ℕ → Progress → Progress

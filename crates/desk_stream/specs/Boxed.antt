@@ -12,6 +12,10 @@ use Rattle.stored.specs.Stored.{kept, recorded, isBox}
 use Rattle.desk_stream.specs.Desk.{Heard, hears}
 use Rattle.desk_stream.specs.Window.{Piece, waitingIn, piece, repliedIn, Progress, outset, served}
 
+-- the box that numbers and a ring are
+abbrev pub boxIn : List ℕ → List ℕ → State
+boxIn ws ring = stateOf (recorded ws) ring
+
 -- the number told; the box's numbers, the ring, the reply and the lines as they are left; bytes read, bytes of text written, and
 -- whether a bad record was met
 pub record Came : Type 0 where
@@ -49,7 +53,7 @@ windowed lines p =
 
 unfoldable pub serving : List ℕ → List ℕ → List ℕ → ℕ → Bool → List ℕ → Came
 serving ws ring input base last lines =
-    cond (isBox ws (length ring)) (windowed lines (served base last (length lines) 0 (outset (stateOf (recorded ws) ring)) input))
+    cond (isBox ws (length ring)) (windowed lines (served base last (length lines) 0 (outset (boxIn ws ring)) input))
     (asItWas ws ring [] lines)
 
 -- one record: its text is put as far as there is room. With a reply of up to 259 bytes that is all of it (`line-whole`, `bad-whole`)
@@ -76,4 +80,4 @@ onceIn box reply input offset lines = cond (leb lineRoom (length lines)) (oneOf 
 
 unfoldable pub performing : List ℕ → List ℕ → List ℕ → List ℕ → ℕ → List ℕ → Came
 performing ws ring reply input offset lines =
-    cond (isBox ws (length ring)) (onceIn (stateOf (recorded ws) ring) reply input offset lines) (asItWas ws ring reply lines)
+    cond (isBox ws (length ring)) (onceIn (boxIn ws ring) reply input offset lines) (asItWas ws ring reply lines)

@@ -4,10 +4,10 @@ use mathlib.Core.Path.{_≡_}
 use mathlib.Core.Bool.{Bool, true}
 use mathlib.Core.List.{List}
 use lib.ListN.{length}
-use Rattle.answers.specs.Told.{stateOf}
 use Rattle.desk_text.specs.Put.{Puts, overlaid}
-use Rattle.stored.specs.Stored.{kept, recorded, isBox}
+use Rattle.stored.specs.Stored.{kept, isBox}
 use Rattle.desk_stream.specs.Window.{Piece, Progress, outset, served}
+use Rattle.desk_stream.specs.Boxed.{boxIn}
 
 -- the piece's text is put, and the box is the one that it leaves
 pub record Turns (p : Piece) (out : List ℕ) (filled number written : ℕ) (ended : Bool) (ws ring out' : List ℕ) : Type 0 where
@@ -33,4 +33,4 @@ pub record Holds (p : Progress) (window out : List ℕ) (number read written : �
 
 abbrev pub Serves : ℕ → Bool → List ℕ → List ℕ → List ℕ → List ℕ → ℕ → ℕ → ℕ → Bool → List ℕ → List ℕ → List ℕ → Type 0
 Serves base last ws ring s out number read written ended ws' ring' out' =
-    Holds (served base last (length out) 0 (outset (stateOf (recorded ws) ring)) s) s out number read written ended ws' ring' out'
+    Holds (served base last (length out) 0 (outset (boxIn ws ring)) s) s out number read written ended ws' ring' out'

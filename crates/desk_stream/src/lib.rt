@@ -9,15 +9,14 @@ ghost use mathlib.Core.List.{[]};
 ghost use Prim.Native.Nat.{_+_, _-_, _≤_, min};
 ghost use lib.ListN.{length, drop};
 ghost use Rattle.rules.specs.Machine.{step};
-ghost use Rattle.answers.specs.Told.{stateOf};
 ghost use Rattle.answers.specs.Asked.{asked, replied};
 ghost use Rattle.desk_text.specs.Put.{Puts};
 ghost use Rattle.desk_line.specs.Line.{lineRoom};
-ghost use Rattle.stored.specs.Stored.{isBox, recorded};
+ghost use Rattle.stored.specs.Stored.{isBox};
 ghost use Rattle.desk_stream.specs.Desk.{replyRoom, hears, callWith, badLine, badText};
 ghost use Rattle.desk_stream.specs.Window.{waits, answeredBy, piece, repliedIn, unread};
 ghost use Rattle.desk_stream.specs.Held.{Turns, Serves};
-ghost use Rattle.desk_stream.specs.Boxed.{serving, performing};
+ghost use Rattle.desk_stream.specs.Boxed.{boxIn, serving, performing};
 
 // The reply that serves all fetches of a window.
 const REPLY_ROOM: usize = 259;
@@ -81,12 +80,12 @@ fn answer(
     requires { ⌜ isBox (now w) (length (now ring)) ≡ true ⌝ }
     requires { ⌜ filled + lineRoom ≤ length (now out) ⌝ }
     ensures { λ t. ⌜ t .read ≡ place ⌝ }
-    ensures { λ t. ⌜ Turns (answeredBy kind (step (stateOf (recorded (now (w .entry))) (now (ring .entry)))
+    ensures { λ t. ⌜ Turns (answeredBy kind (step (boxIn (now (w .entry)) (now (ring .entry)))
         (callWith (length (now (reply .entry))) request (now (given .entry)))) 0)
         (now (out .entry)) filled (t .number) (t .written) (t .ended) (now (w .exit)) (now (ring .exit)) (now (out .exit)) ⌝ }
     ensures { λ _. ⌜ now (reply .exit)
         ≡ replied (asked request (now (given .entry)) (now (reply .entry)))
-        (step (stateOf (recorded (now (w .entry))) (now (ring .entry))) (asked request (now (given .entry)) (now (reply .entry)))) (now (reply .entry)) ⌝ }
+        (step (boxIn (now (w .entry)) (now (ring .entry))) (asked request (now (given .entry)) (now (reply .entry)))) (now (reply .entry)) ⌝ }
 {
     let answer = working::perform(w, ring, request, given, reply);
     let number = answer.number();
@@ -114,10 +113,12 @@ fn turn(
 ) -> Came
     requires { ⌜ isBox (now w) (length (now ring)) ≡ true ⌝ }
     requires { ⌜ filled + lineRoom ≤ length (now out) ⌝ }
-    ensures { λ t. ⌜ t .read ≡ at + piece (length (now (reply .entry))) (base + at) last (stateOf (recorded (now (w .entry))) (now (ring .entry))) (drop at (now (s .entry))) .size ⌝ }
-    ensures { λ t. ⌜ Turns (piece (length (now (reply .entry))) (base + at) last (stateOf (recorded (now (w .entry))) (now (ring .entry))) (drop at (now (s .entry))))
+    ensures { λ t. ⌜ t .read
+        ≡ at + piece (length (now (reply .entry))) (base + at) last (boxIn (now (w .entry)) (now (ring .entry))) (drop at (now (s .entry))) .size ⌝ }
+    ensures { λ t. ⌜ Turns (piece (length (now (reply .entry))) (base + at) last (boxIn (now (w .entry)) (now (ring .entry))) (drop at (now (s .entry))))
         (now (out .entry)) filled (t .number) (t .written) (t .ended) (now (w .exit)) (now (ring .exit)) (now (out .exit)) ⌝ }
-    ensures { λ _. ⌜ now (reply .exit) ≡ repliedIn (hears (drop at (now (s .entry)))) (stateOf (recorded (now (w .entry))) (now (ring .entry))) (now (reply .entry)) ⌝ }
+    ensures { λ _. ⌜ now (reply .exit)
+        ≡ repliedIn (hears (drop at (now (s .entry)))) (boxIn (now (w .entry)) (now (ring .entry))) (now (reply .entry)) ⌝ }
 {
     let hearing = desk_records::read::hear(s, at);
     let Hearing::Record {

@@ -112,7 +112,8 @@ module _ (c : Call) (ws ring : List ℕ) (r : Record) (box : isBox ws (length ri
 
     -- quiet and the ring's two
     pub heard-does : {a : Answer} {ws' : List ℕ} → Heard r (step (stateOf r ring) c)
-        → (a ≡ after .answer) × ((ws' ≡ heardIn (after .next .job .quiet) (after .next .ring) ws) × (after .next .job .quiet < words)) → Does c ws ring a ws' ring' reply'
+        → (a ≡ after .answer) ×
+        ((ws' ≡ heardIn (after .next .job .quiet) (after .next .ring) ws) × (after .next .job .quiet < words)) → Does c ws ring a ws' ring' reply'
     heard-does {a} {ws'} only k =
         let q = after .next .job .quiet in
         let n : quietAt q (withRing (after .next .ring) r) ≡ after .next =

@@ -8,7 +8,8 @@ use lib.Dec.{leb}
 use Rattle.rules.specs.declared.Record.{Record}
 use Rattle.rules.specs.Record.{idle}
 use Rattle.rules.specs.Moves.{withFeeder, withRing, quietAt, ticked, timedOut, released, due, last, fetched, drained, moved, filled}
-use Rattle.rules.specs.Calls.{Call, scan, Fetch, feeder, Load, Eject, Reset, report, Bytes, Tray, Tick, State, Outcome, Values, nothing, time, destination, picture, state, sides, feeding, mode, stored}
+use Rattle.rules.specs.Calls.{Call, scan, Fetch, feeder, Load, Eject, Reset, report, Bytes, Tray, Tick}
+use Rattle.rules.specs.Calls.{State, Outcome, Values, nothing, time, destination, picture, state, sides, feeding, mode, stored}
 use Rattle.rules.specs.Machine.{step, effect, scanEffect, feederEffect, reportEffect}
 use Rattle.rules.proofs.Answers.{by-step}
 

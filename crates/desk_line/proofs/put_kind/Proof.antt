@@ -16,8 +16,11 @@ same-length c = search needs
 
 returns : tie.Need-returns
 returns c =
-    let space = c .before .before in
-    (then (space .before .before .before .before .put-hex .ensures) (space .set-byte .ensures .0), omega (arith, put-most (space .before .before .before .before .put-hex .ensures)))
+    let space = c .before .before in (
+      then (space .before .before .before .before .put-hex .ensures) (space .set-byte .ensures .0),
+      omega
+          (arith, put-most (space .before .before .before .before .put-hex .ensures)),
+    )
 
 pub put-kind-spec : {M : Type 1} → statement M
 put-kind-spec = tie.close (tie.spec put-hex-requires set-byte-requires same-length returns)

@@ -30,13 +30,16 @@ same-length-3 c = search needs
 
 returns : tie.Need-returns
 returns c =
-    let start = c .before .before .before .before .before .before .before .before .before .before .before .before .before .before .before .before .before .before .before .before in
+    let half = c .before .before .before .before .before .before .before .before .before .before in
+    let start = half .before .before .before .before .before .before .before .before .before .before in
     let a = start .args in
     let works = c .before .before .before .before .before .before .before .before .before .before .before .before .perform .ensures (start .pre .0) in (
       refl,
       (
-        answered-turn (a .request) (a .given .now) (a .w .now) (a .ring .now) (a .reply .now) (start .pre .0) works (a .kind) (c .before .before .before .before .before .load .ensures)
-            (c .before .before .before .before .before .before .before .number .ensures) (moved (c .before .before .put-line .ensures) (roomed-whole _ _ _ (start .pre .1))),
+        answered-turn (a .request) (a .given .now) (a .w .now) (a .ring .now) (a .reply .now) (start .pre .0) works (a .kind)
+            (c .before .before .before .before .before .load .ensures)
+            (c .before .before .before .before .before .before .before .number .ensures)
+            (moved (c .before .before .put-line .ensures) (roomed-whole _ _ _ (start .pre .1))),
         works .replies,
       ),
     )

@@ -52,21 +52,24 @@ returns-2 : tie.Need-returns-2 Inv-loop μ-loop
 returns-2 c =
     let turn = c .before .before .before .before .before .before .before .before in
     let room = c .before .before .before .before .before .before .before .before .before .before .before .before .before .before in
-    serving-stops (room .before .before .loop .inv) (room .before .loop-test .taken) (room .has-room .ensures) (c .before .before .before .before .before .before .before .before .before .before .before .before .before .if1 .left)
+    serving-stops (room .before .before .loop .inv) (room .before .loop-test .taken) (room .has-room .ensures)
+    (c .before .before .before .before .before .before .before .before .before .before .before .before .before .if1 .left)
     (turn .turn .ensures .0) (turn .turn .ensures .1 .0) (c .if2 .taken)
 
 loop-less : tie.Need-loop-less Inv-loop μ-loop
 loop-less c =
     let turn = c .before .before .before .before .before .before .before .before in
     let room = c .before .before .before .before .before .before .before .before .before .before .before .before .before .before in
-    serving-less (room .before .before .loop .inv) (room .before .loop-test .taken) (room .has-room .ensures) (c .before .before .before .before .before .before .before .before .before .before .before .before .before .if1 .left)
+    serving-less (room .before .before .loop .inv) (room .before .loop-test .taken) (room .has-room .ensures)
+    (c .before .before .before .before .before .before .before .before .before .before .before .before .before .if1 .left)
     (turn .turn .ensures .0) (turn .turn .ensures .1 .0) (c .if2 .left)
 
 loop-again : tie.Need-loop-again Inv-loop μ-loop
 loop-again c =
     let turn = c .before .before .before .before .before .before .before .before in
     let room = c .before .before .before .before .before .before .before .before .before .before .before .before .before .before in
-    serving-again (room .before .before .loop .inv) (room .before .loop-test .taken) (room .has-room .ensures) (c .before .before .before .before .before .before .before .before .before .before .before .before .before .if1 .left)
+    serving-again (room .before .before .loop .inv) (room .before .loop-test .taken) (room .has-room .ensures)
+    (c .before .before .before .before .before .before .before .before .before .before .before .before .before .if1 .left)
     (turn .turn .ensures .0) (turn .turn .ensures .1 .0) (c .if2 .left) (search needs) (search needs)
 
 same-length-7 : tie.Need-same-length-7 Inv-loop μ-loop

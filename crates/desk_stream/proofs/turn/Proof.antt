@@ -71,7 +71,8 @@ same-length-4 c = search needs
 
 returns-2 : tie.Need-returns-2
 returns-2 c =
-    let start = c .before .before .before .before .before .before .before .before .before .before .before .before .before .before .before .before .before .before .before .before .before in
+    let half = c .before .before .before .before .before .before .before .before .before .before in
+    let start = half .before .before .before .before .before .before .before .before .before .before .before in
     let a = start .args in
     let box = stateOf (recorded (a .w .now)) (a .ring .now) in
     let room = length (a .reply .now) in

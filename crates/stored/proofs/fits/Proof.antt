@@ -32,21 +32,26 @@ fits-requires-2 c κs = search needs
 
 returns-3 : tie.Need-returns-3
 unfolding allFit
-returns-3 c = sym (one-fails (fitting (c .before .before .before .before .before .before .args .w .now)) 2 (stopped-at _ _ (c .before .fits3 .ensures) (c .if3 .taken)))
+returns-3 c =
+    sym (one-fails (fitting (c .before .before .before .before .before .before .args .w .now)) 2 (stopped-at _ _ (c .before .fits3 .ensures) (c .if3 .taken)))
 
 fits-requires-3 : tie.Need-fits-requires-3
 fits-requires-3 c κs = search needs
 
 returns-4 : tie.Need-returns-4
 unfolding allFit
-returns-4 c = sym (one-fails (fitting (c .before .before .before .before .before .before .before .before .args .w .now)) 3 (stopped-at _ _ (c .before .fits4 .ensures) (c .if4 .taken)))
+returns-4 c =
+    sym (one-fails (fitting (c .before .before .before .before .before .before .before .before .args .w .now)) 3
+    (stopped-at _ _ (c .before .fits4 .ensures) (c .if4 .taken)))
 
 fits-requires-4 : tie.Need-fits-requires-4
 fits-requires-4 c κs = search needs
 
 returns-5 : tie.Need-returns-5
 unfolding allFit
-returns-5 c = sym (one-fails (fitting (c .before .before .before .before .before .before .before .before .before .before .args .w .now)) 4 (stopped-at _ _ (c .before .fits5 .ensures) (c .if5 .taken)))
+returns-5 c =
+    sym (one-fails (fitting (c .before .before .before .before .before .before .before .before .before .before .args .w .now)) 4
+    (stopped-at _ _ (c .before .fits5 .ensures) (c .if5 .taken)))
 
 fits-requires-5 : tie.Need-fits-requires-5
 fits-requires-5 c κs = search needs
@@ -63,10 +68,14 @@ returns-6 c =
     (last-decides tests (every (feederFits (from w feederAt))) (
       eq-eqb _ version (c .before .before .before .before .before .before .before .before .before .if1 .left),
       (
-        went-on _ _ (c .before .before .before .before .before .before .before .before .fits2 .ensures) (c .before .before .before .before .before .before .before .if2 .left),
+        went-on _ _ (c .before .before .before .before .before .before .before .before .fits2 .ensures)
+            (c .before .before .before .before .before .before .before .if2 .left),
         (
           went-on _ _ (c .before .before .before .before .before .before .fits3 .ensures) (c .before .before .before .before .before .if3 .left),
-          (went-on _ _ (c .before .before .before .before .fits4 .ensures) (c .before .before .before .if4 .left), (went-on _ _ (c .before .before .fits5 .ensures) (c .before .if5 .left), tt)),
+          (
+            went-on _ _ (c .before .before .before .before .fits4 .ensures) (c .before .before .before .if4 .left),
+            (went-on _ _ (c .before .before .fits5 .ensures) (c .before .if5 .left), tt),
+          ),
         ),
       ),
     ))

@@ -36,10 +36,14 @@ returns c =
     let start = scanner .before .before .before .before .before .before .before .before .before .before in
     let r = start .args .r in
     let row = row-kept r (start .args .w .now) (scanner .before .before .count .ensures) (scanner .keep .ensures)
-    (c .before .before .before .before .before .before .before .before .keep2 .ensures .0) (c .before .before .before .before .before .before .keep3 .ensures .0) (c .before .before .before .before .keep4 .ensures .0) (c .before .before .keep5 .ensures .0) (c .keep6 .ensures) in (
+    (c .before .before .before .before .before .before .before .before .keep2 .ensures .0)
+    (c .before .before .before .before .before .before .keep3 .ensures .0) (c .before .before .before .before .keep4 .ensures .0)
+    (c .before .before .keep5 .ensures .0) (c .keep6 .ensures) in (
       row,
       ap allFit row
-          ∙ kept-fits r (c .before .before .before .before .before .before .before .before .keep2 .ensures .1) (c .before .before .before .before .before .before .keep3 .ensures .1) (c .before .before .before .before .keep4 .ensures .1) (c .before .before .keep5 .ensures .1),
+          ∙ kept-fits r (c .before .before .before .before .before .before .before .before .keep2 .ensures .1)
+          (c .before .before .before .before .before .before .keep3 .ensures .1) (c .before .before .before .before .keep4 .ensures .1)
+          (c .before .before .keep5 .ensures .1),
     )
 
 pub keep-spec : {M : Type 1} → statement M

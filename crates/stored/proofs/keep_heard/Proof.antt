@@ -15,7 +15,11 @@ keep-requires : tie.Need-keep-requires
 keep-requires c κs = search needs
 
 returns : tie.Need-returns
-returns c = (c .keep .ensures ∙ rw (c .before .before .of-word .ensures .0) refl, omega (arith, c .before .before .of-word .ensures .0, c .before .before .of-word .ensures .1))
+returns c = (
+  c .keep .ensures ∙ rw (c .before .before .of-word .ensures .0) refl,
+  omega
+      (arith, c .before .before .of-word .ensures .0, c .before .before .of-word .ensures .1),
+)
 
 pub keep-heard-spec : {M : Type 1} → statement M
 keep-heard-spec = tie.close (tie.spec of-word-requires element-write-w keep-requires returns)

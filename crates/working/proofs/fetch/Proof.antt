@@ -28,7 +28,8 @@ same-length c = search needs
 
 returns : tie.Need-returns
 returns c = λ box.
-    settled-does _ _ _ _ box (c .before .before .before .before .before .before .before .before .before .load .ensures) (c .before .before .before .before .before .before .before .fetch-sound .ensures) (refl, c .keep .ensures)
+    settled-does _ _ _ _ box (c .before .before .before .before .before .before .before .before .before .load .ensures)
+    (c .before .before .before .before .before .before .before .fetch-sound .ensures) (refl, c .keep .ensures)
 
 settle-heard-requires : tie.Need-settle-heard-requires
 settle-heard-requires c κs = search needs
@@ -41,10 +42,15 @@ returns-2 c = λ box.
     let a = c .before .before .before .before .before .before .before .before .before .before .before .before .before .before .before .before .args in
     let r = c .before .before .before .before .before .before .before .before .before .load .result in
     let told = c .before .before .before .before .before .before .before .fetch-sound .ensures in
-    let last = ap (λ (o : Outcome). lastTold (o .values)) (sym (told (so (scan (Fetch (a .called .now) (a .most) (a .reply .now))) (a .w .now) (a .ring .now) r box (c .before .before .before .before .before .before .before .before .before .load .ensures)))) in
-    heard-does _ _ _ r box (c .before .before .before .before .before .before .before .before .before .load .ensures) (c .before .before .before .before .before .before .before .before .before .before .before .count .ensures) (c .before .before .before .before .before .before .before .fetch-sound .result) told
+    let last = ap (λ (o : Outcome). lastTold (o .values))
+    (sym (told (so (scan (Fetch (a .called .now) (a .most) (a .reply .now))) (a .w .now) (a .ring .now) r box
+    (c .before .before .before .before .before .before .before .before .before .load .ensures)))) in
+    heard-does _ _ _ r box (c .before .before .before .before .before .before .before .before .before .load .ensures)
+    (c .before .before .before .before .before .before .before .before .before .before .before .count .ensures)
+    (c .before .before .before .before .before .before .before .fetch-sound .result) told
     (fetch-heard (stateOf r (a .ring .now)) (a .called .now) (a .reply .now) (a .most)
-    (last ∙ last-told _ _ (c .before .before .before .before .before .before .before .fetch-sound .result .answer) ∙ sym (c .before .before .before .is-last .ensures) ∙ c .before .before .if1 .left))
+    (last ∙ last-told _ _ (c .before .before .before .before .before .before .before .fetch-sound .result .answer) ∙ sym
+    (c .before .before .before .is-last .ensures) ∙ c .before .before .if1 .left))
     (c .settle-heard .ensures)
 
 pub fetch-spec : {M : Type 1} → statement M

@@ -215,7 +215,10 @@ returns : tie.Need-returns
 returns c =
     rw (c .before .before .before .before .before .before .before .request .given .1) (λ box.
     record {
-      does = refusing-does _ _ _ _ box (c .before .before .before .before .load .ensures) (c .before .before .before .before .before .before .before .before .before .count .ensures) (c .before .start-scan-sound .result) (c .before .start-scan-sound .ensures) (λ _. refl) (c .settle .ensures);
+      does =
+          refusing-does _ _ _ _ box (c .before .before .before .before .load .ensures)
+          (c .before .before .before .before .before .before .before .before .before .count .ensures) (c .before .start-scan-sound .result)
+          (c .before .start-scan-sound .ensures) (λ _. refl) (c .settle .ensures);
       replies = refl;
     })
 
@@ -226,7 +229,10 @@ returns-2 : tie.Need-returns-2
 returns-2 c =
     rw (c .before .before .before .before .before .before .before .request2 .given .1) (λ box.
     record {
-      does = refusing-does _ _ _ _ box (c .before .before .before .before .load2 .ensures) (c .before .before .before .before .before .before .before .before .before .count .ensures) (c .before .start-sound .result) (c .before .start-sound .ensures) (λ _. refl) (c .settle2 .ensures);
+      does =
+          refusing-does _ _ _ _ box (c .before .before .before .before .load2 .ensures)
+          (c .before .before .before .before .before .before .before .before .before .count .ensures) (c .before .start-sound .result)
+          (c .before .start-sound .ensures) (λ _. refl) (c .settle2 .ensures);
       replies = refl;
     })
 
@@ -237,7 +243,10 @@ returns-3 : tie.Need-returns-3
 returns-3 c =
     rw (c .before .before .before .before .before .before .before .request3 .given .1) (λ box.
     record {
-      does = refusing-does _ _ _ _ box (c .before .before .before .before .load3 .ensures) (c .before .before .before .before .before .before .before .before .before .count .ensures) (c .before .stop-sound .result) (c .before .stop-sound .ensures) (λ _. refl) (c .settle3 .ensures);
+      does =
+          refusing-does _ _ _ _ box (c .before .before .before .before .load3 .ensures)
+          (c .before .before .before .before .before .before .before .before .before .count .ensures) (c .before .stop-sound .result)
+          (c .before .stop-sound .ensures) (λ _. refl) (c .settle3 .ensures);
       replies = refl;
     })
 
@@ -248,7 +257,10 @@ returns-4 : tie.Need-returns-4
 returns-4 c =
     rw (c .before .before .before .before .before .before .before .request4 .given .1) (λ box.
     record {
-      does = refusing-does _ _ _ _ box (c .before .before .before .before .load4 .ensures) (c .before .before .before .before .before .before .before .before .before .count .ensures) (c .before .abort-sound .result) (c .before .abort-sound .ensures) (λ _. refl) (c .settle4 .ensures);
+      does =
+          refusing-does _ _ _ _ box (c .before .before .before .before .load4 .ensures)
+          (c .before .before .before .before .before .before .before .before .before .count .ensures) (c .before .abort-sound .result)
+          (c .before .abort-sound .ensures) (λ _. refl) (c .settle4 .ensures);
       replies = refl;
     })
 
@@ -259,7 +271,9 @@ returns-5 : tie.Need-returns-5
 returns-5 c =
     rw (c .before .before .before .before .before .request5 .given .1) (λ box.
     record {
-      does = told-does _ _ _ _ box (c .before .before .load5 .ensures) (c .before .before .before .before .before .before .before .count .ensures) (c .get-destination-sound .ensures);
+      does =
+          told-does _ _ _ _ box (c .before .before .load5 .ensures) (c .before .before .before .before .before .before .before .count .ensures)
+          (c .get-destination-sound .ensures);
       replies = refl;
     })
 
@@ -282,7 +296,9 @@ returns-7 : tie.Need-returns-7
 returns-7 c =
     rw (c .before .before .before .before .enum-told .given .1) (λ box.
     record {
-      does = told-does _ _ _ _ box (c .before .before .load6 .ensures) (c .before .before .before .before .before .before .count .ensures) (c .get-state-sound .ensures);
+      does =
+          told-does _ _ _ _ box (c .before .before .load6 .ensures) (c .before .before .before .before .before .before .count .ensures)
+          (c .get-state-sound .ensures);
       replies = refl;
     })
 
@@ -293,7 +309,9 @@ returns-8 : tie.Need-returns-8
 returns-8 c =
     rw (c .before .before .before .before .enum-told2 .given .1) (λ box.
     record {
-      does = told-does _ _ _ _ box (c .before .before .load7 .ensures) (c .before .before .before .before .before .before .count .ensures) (c .get-side-information-sound .ensures);
+      does =
+          told-does _ _ _ _ box (c .before .before .load7 .ensures) (c .before .before .before .before .before .before .count .ensures)
+          (c .get-side-information-sound .ensures);
       replies = refl;
     })
 
@@ -304,7 +322,10 @@ returns-9 : tie.Need-returns-9
 returns-9 c =
     rw (c .before .before .before .before .before .before .before .request7 .given .1) (λ box.
     record {
-      does = fed-does _ _ _ _ box (c .before .before .before .before .load8 .ensures) (c .before .before .before .before .before .before .before .before .before .count .ensures) (c .before .load-sound .result) (c .before .load-sound .ensures) (load-fed _ _) (c .settle-fed .ensures);
+      does =
+          fed-does _ _ _ _ box (c .before .before .before .before .load8 .ensures)
+          (c .before .before .before .before .before .before .before .before .before .count .ensures) (c .before .load-sound .result)
+          (c .before .load-sound .ensures) (load-fed _ _) (c .settle-fed .ensures);
       replies = refl;
     })
 
@@ -315,7 +336,10 @@ returns-10 : tie.Need-returns-10
 returns-10 c =
     rw (c .before .before .before .before .before .before .before .request8 .given .1) (λ box.
     record {
-      does = fed-does _ _ _ _ box (c .before .before .before .before .load9 .ensures) (c .before .before .before .before .before .before .before .before .before .count .ensures) (c .before .eject-sound .result) (c .before .eject-sound .ensures) (eject-fed _ _ _) (c .settle-fed2 .ensures);
+      does =
+          fed-does _ _ _ _ box (c .before .before .before .before .load9 .ensures)
+          (c .before .before .before .before .before .before .before .before .before .count .ensures) (c .before .eject-sound .result)
+          (c .before .eject-sound .ensures) (eject-fed _ _ _) (c .settle-fed2 .ensures);
       replies = refl;
     })
 
@@ -326,7 +350,10 @@ returns-11 : tie.Need-returns-11
 returns-11 c =
     rw (c .before .before .before .before .before .before .before .request9 .given .1) (λ box.
     record {
-      does = fed-does _ _ _ _ box (c .before .before .before .before .load10 .ensures) (c .before .before .before .before .before .before .before .before .before .count .ensures) (c .before .reset-sound .result) (c .before .reset-sound .ensures) (reset-fed _ _) (c .settle-fed3 .ensures);
+      does =
+          fed-does _ _ _ _ box (c .before .before .before .before .load10 .ensures)
+          (c .before .before .before .before .before .before .before .before .before .count .ensures) (c .before .reset-sound .result)
+          (c .before .reset-sound .ensures) (reset-fed _ _) (c .settle-fed3 .ensures);
       replies = refl;
     })
 
@@ -337,7 +364,9 @@ returns-12 : tie.Need-returns-12
 returns-12 c =
     rw (c .before .before .before .before .before .request10 .given .1) (λ box.
     record {
-      does = told-does _ _ _ _ box (c .before .before .load11 .ensures) (c .before .before .before .before .before .before .before .count .ensures) (c .set-feeder-mode-sound .ensures);
+      does =
+          told-does _ _ _ _ box (c .before .before .load11 .ensures) (c .before .before .before .before .before .before .before .count .ensures)
+          (c .set-feeder-mode-sound .ensures);
       replies = refl;
     })
 
@@ -348,7 +377,9 @@ returns-13 : tie.Need-returns-13
 returns-13 c =
     rw (c .before .before .before .before .enum-told3 .given .1) (λ box.
     record {
-      does = told-does _ _ _ _ box (c .before .before .load12 .ensures) (c .before .before .before .before .before .before .count .ensures) (c .get-state-sound2 .ensures);
+      does =
+          told-does _ _ _ _ box (c .before .before .load12 .ensures) (c .before .before .before .before .before .before .count .ensures)
+          (c .get-state-sound2 .ensures);
       replies = refl;
     })
 
@@ -359,7 +390,9 @@ returns-14 : tie.Need-returns-14
 returns-14 c =
     rw (c .before .before .before .before .enum-told4 .given .1) (λ box.
     record {
-      does = told-does _ _ _ _ box (c .before .before .load13 .ensures) (c .before .before .before .before .before .before .count .ensures) (c .get-feeder-mode-sound .ensures);
+      does =
+          told-does _ _ _ _ box (c .before .before .load13 .ensures) (c .before .before .before .before .before .before .count .ensures)
+          (c .get-feeder-mode-sound .ensures);
       replies = refl;
     })
 
@@ -370,7 +403,10 @@ returns-15 : tie.Need-returns-15
 returns-15 c =
     rw (c .before .before .before .before .before .before .before .before .enum-told5 .given .1) (λ box.
     record {
-      does = heard-does _ _ _ _ box (c .before .before .before .before .before .before .load14 .ensures) (c .before .before .before .before .before .before .before .before .before .before .count .ensures) (c .before .before .before .bytes-sound .result) (c .before .before .before .bytes-sound .ensures) (bytes-heard _ _) (c .settle-heard .ensures);
+      does =
+          heard-does _ _ _ _ box (c .before .before .before .before .before .before .load14 .ensures)
+          (c .before .before .before .before .before .before .before .before .before .before .count .ensures)
+          (c .before .before .before .bytes-sound .result) (c .before .before .before .bytes-sound .ensures) (bytes-heard _ _) (c .settle-heard .ensures);
       replies = refl;
     })
 
@@ -381,7 +417,10 @@ returns-16 : tie.Need-returns-16
 returns-16 c =
     rw (c .before .before .before .before .before .before .enum-told6 .given .1) (λ box.
     record {
-      does = refusing-does _ _ _ _ box (c .before .before .before .before .load15 .ensures) (c .before .before .before .before .before .before .before .before .count .ensures) (c .before .side-ended-sound .result) (c .before .side-ended-sound .ensures) (λ _. refl) (c .settle5 .ensures);
+      does =
+          refusing-does _ _ _ _ box (c .before .before .before .before .load15 .ensures)
+          (c .before .before .before .before .before .before .before .before .count .ensures) (c .before .side-ended-sound .result)
+          (c .before .side-ended-sound .ensures) (λ _. refl) (c .settle5 .ensures);
       replies = refl;
     })
 
@@ -392,7 +431,10 @@ returns-17 : tie.Need-returns-17
 returns-17 c =
     rw (c .before .before .before .before .before .before .before .request11 .given .1) (λ box.
     record {
-      does = fed-does _ _ _ _ box (c .before .before .before .before .load16 .ensures) (c .before .before .before .before .before .before .before .before .before .count .ensures) (c .before .tray-sound .result) (c .before .tray-sound .ensures) (tray-fed _ _) (c .settle-fed4 .ensures);
+      does =
+          fed-does _ _ _ _ box (c .before .before .before .before .load16 .ensures)
+          (c .before .before .before .before .before .before .before .before .before .count .ensures) (c .before .tray-sound .result)
+          (c .before .tray-sound .ensures) (tray-fed _ _) (c .settle-fed4 .ensures);
       replies = refl;
     })
 
@@ -403,7 +445,10 @@ returns-18 : tie.Need-returns-18
 returns-18 c =
     rw (c .before .before .before .before .before .before .before .request12 .given .1) (λ box.
     record {
-      does = refusing-does _ _ _ _ box (c .before .before .before .before .load17 .ensures) (c .before .before .before .before .before .before .before .before .before .count .ensures) (c .before .path-sound .result) (c .before .path-sound .ensures) (λ _. refl) (c .settle6 .ensures);
+      does =
+          refusing-does _ _ _ _ box (c .before .before .before .before .load17 .ensures)
+          (c .before .before .before .before .before .before .before .before .before .count .ensures) (c .before .path-sound .result)
+          (c .before .path-sound .ensures) (λ _. refl) (c .settle6 .ensures);
       replies = refl;
     })
 

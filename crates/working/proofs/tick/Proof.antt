@@ -25,7 +25,8 @@ is-idle-requires c κs = search needs
 returns : tie.Need-returns
 returns c = λ ring box.
     let r = c .before .before .before .before .before .before .load .result in
-    still-does (report Tick) _ ring r box (c .before .before .before .before .before .before .load .ensures) (c .before .before .before .before .before .before .before .before .count .ensures) (c .before .before .before .before .tick-sound .result)
+    still-does (report Tick) _ ring r box (c .before .before .before .before .before .before .load .ensures)
+    (c .before .before .before .before .before .before .before .before .count .ensures) (c .before .before .before .before .tick-sound .result)
     (c .before .before .before .before .tick-sound .ensures ring) refl (idle-second (stateOf r ring) (sym (c .before .is-idle .ensures) ∙ c .if1 .taken))
 
 is-idle-requires-2 : tie.Need-is-idle-requires-2
@@ -36,7 +37,8 @@ keep-requires c κs = search needs
 
 returns-2 : tie.Need-returns-2
 returns-2 c = λ ring box.
-    settled-does (report Tick) _ ring _ box (c .before .before .before .before .before .before .before .before .before .before .load .ensures) (c .before .before .before .before .before .before .before .before .tick-sound .ensures ring) (refl, c .keep .ensures)
+    settled-does (report Tick) _ ring _ box (c .before .before .before .before .before .before .before .before .before .before .load .ensures)
+    (c .before .before .before .before .before .before .before .before .tick-sound .ensures ring) (refl, c .keep .ensures)
 
 settle-heard-requires : tie.Need-settle-heard-requires
 settle-heard-requires c κs = search needs
@@ -45,8 +47,11 @@ returns-3 : tie.Need-returns-3
 returns-3 c = λ ring box.
     let r = c .before .before .before .before .before .before .before .before .before .before .load .result in
     let told = c .before .before .before .before .before .before .before .before .tick-sound .ensures ring in
-    let left = ap (λ (o : Outcome). idle (o .state .box .scanner .state)) (sym (told (so (report Tick) _ ring r box (c .before .before .before .before .before .before .before .before .before .before .load .ensures)))) in
-    heard-does (report Tick) _ ring r box (c .before .before .before .before .before .before .before .before .before .before .load .ensures) (c .before .before .before .before .before .before .before .before .before .before .before .before .count .ensures) (c .before .before .before .before .before .before .before .before .tick-sound .result) told
+    let left = ap (λ (o : Outcome). idle (o .state .box .scanner .state))
+    (sym (told (so (report Tick) _ ring r box (c .before .before .before .before .before .before .before .before .before .before .load .ensures)))) in
+    heard-does (report Tick) _ ring r box (c .before .before .before .before .before .before .before .before .before .before .load .ensures)
+    (c .before .before .before .before .before .before .before .before .before .before .before .before .count .ensures)
+    (c .before .before .before .before .before .before .before .before .tick-sound .result) told
     (second-heard (stateOf r ring) (left ∙ sym (c .before .before .before .is-idle2 .ensures) ∙ c .before .before .if2 .left)) (c .settle-heard .ensures)
 
 pub tick-spec : {M : Type 1} → statement M

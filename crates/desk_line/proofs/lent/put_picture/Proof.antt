@@ -28,7 +28,13 @@ returns c =
     let count = colon .before .before .before .before in
     let a = count .before .before .before .before .args in (
       rw (← bytes .before .picture .ensures) (then (count .put-moved .ensures .0) (then (colon .set-byte .ensures .0) (bytes .put-hexes .ensures))),
-      omega (arith, put-most (bytes .put-hexes .ensures), length-hexes (bytes .before .picture .result .now), picture-short _ (a .reply .now) (a .k) (bytes .before .picture .ensures)),
+      omega (
+        arith,
+        put-most (bytes .put-hexes .ensures),
+        length-hexes (bytes .before .picture .result .now),
+        picture-short _ (a .reply .now) (a .k)
+            (bytes .before .picture .ensures),
+      ),
     )
 
 pub put-picture-spec : {M : Type 1} → statement M

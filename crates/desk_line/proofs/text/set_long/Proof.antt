@@ -87,8 +87,11 @@ same-length-3 c = search needs
 
 returns-3 : tie.Need-returns-3
 returns-3 c =
-    let put = c .before .before in
-    (put .put-decimal .ensures, omega (arith, put-most (put .put-decimal .ensures), length-digits mostDigits (put .before .before .before .before .before .args .n)))
+    let put = c .before .before in (
+      put .put-decimal .ensures,
+      omega
+          (arith, put-most (put .put-decimal .ensures), length-digits mostDigits (put .before .before .before .before .before .args .n)),
+    )
 
 pub set-long-spec : {M : Type 1} → statement M
 set-long-spec =

@@ -34,7 +34,8 @@ element-write-w-4 c = search needs
 
 returns : tie.Need-returns
 returns c =
-    let k = feeder-each (c .before .before .before .before .args .f) (c .before .before .before .feed-number .ensures) (c .before .before .failure-number .ensures) (c .before .of-byte .ensures) (c .of-byte2 .ensures) in
+    let k = feeder-each (c .before .before .before .before .args .f) (c .before .before .before .feed-number .ensures)
+    (c .before .before .failure-number .ensures) (c .before .of-byte .ensures) (c .of-byte2 .ensures) in
     (ap (λ (l : List ℕ). written feederAt l (c .before .before .before .before .args .w .now)) (k .0), k .1)
 
 pub keep-spec : {M : Type 1} → statement M

@@ -33,7 +33,12 @@ byte-requires-2 c κs = search needs
 returns : tie.Need-returns
 returns c = λ e.
     let below = feeder-below (from (c .before .before .before .before .before .before .before .before .args .w .now) feederAt) e in
-    rw (c .before .before .before .before .before .before .feed-of .ensures, c .before .before .before .before .failure-of .ensures, c .before .before .byte .ensures (below .2), c .byte2 .ensures (below .3)) refl
+    rw (
+      c .before .before .before .before .before .before .feed-of .ensures,
+      c .before .before .before .before .failure-of .ensures,
+      c .before .before .byte .ensures (below .2),
+      c .byte2 .ensures (below .3),
+    ) refl
 
 pub load-spec : {M : Type 1} → statement M
 load-spec =

@@ -40,7 +40,8 @@ element-write-w-5 c = search needs
 
 returns : tie.Need-returns
 returns c =
-    let k = job-each _ (c .before .before .before .before .of-long .ensures) (c .before .before .before .of-long2 .ensures) (c .before .before .of-word .ensures) (c .before .of-word2 .ensures) (c .of-byte .ensures) in
+    let k = job-each _ (c .before .before .before .before .of-long .ensures) (c .before .before .before .of-long2 .ensures)
+    (c .before .before .of-word .ensures) (c .before .of-word2 .ensures) (c .of-byte .ensures) in
     (ap (λ (l : List ℕ). written jobAt l (c .before .before .before .before .before .args .w .now)) (k .0), k .1)
 
 pub keep-spec : {M : Type 1} → statement M
