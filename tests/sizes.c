@@ -56,11 +56,16 @@ static char line[8 * BENCH_BOX_LINE_MOST];
 enum { PAINT = 0x5E, STACK = 65536 };
 static uint8_t stack[STACK];
 static size_t deepest;
+static bool plain; /* on the usual stack: memcheck does not know a painted one */
 static ucontext_t here, there;
 
 static void on_painted_stack(void (*call)(void))
 {
     size_t kept = 0;
+    if (plain) {
+        call();
+        return;
+    }
     memset(stack, PAINT, sizeof stack);
     getcontext(&there);
     there.uc_stack.ss_sp = stack;
@@ -267,14 +272,15 @@ static void no_record(const bench_box *none, const char *name)
     }
 }
 
-int main(void)
+int main(int count, char **words)
 {
     struct guarded a, b;
+    plain = count == 2 && strcmp(words[1], "plain") == 0;
     shift();
     deepest = 0; /* the first calls also bring memcpy in */
     shift();
     other_functions();
-    expect(deepest > 0 && deepest <= BENCH_BOX_STACK_MOST, "the stack that a call takes");
+    expect(plain || (deepest > 0 && deepest <= BENCH_BOX_STACK_MOST), "the stack that a call takes");
     memset(&a, GUARD, sizeof a);
     memset(&b, GUARD, sizeof b);
     memset(&b.box, 0, sizeof b.box);
