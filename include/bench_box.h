@@ -2,8 +2,8 @@
  * The bench box for a C host.
  *
  * The host owns everything: the box record, the ring that pictures wait in, the reply that a fetch fills, the buffer
- * that lines go to. The library keeps no state, allocates nothing, calls nothing but C's memcpy and memset, and always
- * returns.
+ * that lines go to. The library keeps no state, allocates nothing, calls nothing but C's memcpy, memmove and memset,
+ * and always returns.
  *
  * Any bytes and any lengths get an answer. What the host promises:
  *   - box and progress are not NULL; ring, reply, input and lines are not NULL unless their length is 0;
@@ -11,7 +11,7 @@
  *   - no two things lent to one call overlap;
  *   - no other thread uses them during the call;
  *   - a bench_box is aligned as C aligns it;
- *   - BENCH_BOX_STACK_MOST bytes of the stack are free, and what C's memcpy and memset take beside them.
+ *   - BENCH_BOX_STACK_MOST bytes of the stack are free, and what C's memcpy, memmove and memset take beside.
  *
  * Link with libbench_box.a, which is for x86-64 (System V's calling convention, 64-bit lengths, little-endian).
  */
@@ -115,7 +115,7 @@ typedef struct bench_box_progress {
 /* A fresh box. What the record held before does not matter. */
 void bench_box_fresh(bench_box *box);
 
-/* A second has passed. 0; or 604, and the record is as it was. */
+/* A second has passed. 0; or 604: the record is no box record, or not sound with this ring, and is as it was. */
 uint16_t bench_box_tick(bench_box *box, size_t ring_length);
 
 /*
@@ -125,7 +125,7 @@ uint16_t bench_box_tick(bench_box *box, size_t ring_length);
  *   - No whole record at the front (none at all, too): ended is 1, and the line is `bad` with the given offset. The
  *     input is taken to be all there is; where more may come, bench_box_serve with last false waits for it.
  *   - Less than BENCH_BOX_LINE_MOST bytes for the line: nothing is done, all three are 0.
- *   - 604: the box record is not sound with this ring. Nothing is done, all three are 0.
+ *   - 604: the record is no box record, or not sound with this ring. Nothing is done, all three are 0.
  * The result is 0 where no record is answered for another reason than 604.
  */
 uint16_t bench_box_perform(bench_box *box, uint8_t *ring, size_t ring_length, uint8_t *reply, size_t reply_length,
@@ -138,7 +138,7 @@ uint16_t bench_box_perform(bench_box *box, uint8_t *ring, size_t ring_length, ui
  *   - offset is the window's place in the whole input; bad lines count from there. last says that no input follows.
  *   - Records that are not answered yet stand at input + read. A cut record waits for more input unless last is true.
  *   - ended is 1 once a bad record is met: the stream is over.
- * The result is 0; or 604: the box record is not sound with this ring, nothing is done, all three are 0.
+ * The result is 0; or 604: the record is no box record, or not sound with this ring; nothing is done, all three are 0.
  */
 uint16_t bench_box_serve(bench_box *box, uint8_t *ring, size_t ring_length, const uint8_t *input, size_t input_length,
                          uint64_t offset, bool last, uint8_t *lines, size_t lines_length,

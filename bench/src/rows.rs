@@ -194,7 +194,7 @@ impl Work {
     pub fn round<B: Bench + 'static>(self, count: usize) -> Box<dyn FnMut()> {
         let (start, mut ring) = self.prepared::<B>();
         match self.calls {
-            Calls::Stream(_) => Box::new(|| ()),
+            Calls::Stream(_) => panic!("a stream without its input"),
             Calls::Serve { input, .. } => {
                 let (mut lines, length) = (vec![0; LINES], if count == 0 { 0 } else { input.len() });
                 Box::new(move || {

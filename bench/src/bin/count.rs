@@ -55,7 +55,7 @@ fn print_all(programs: &Programs, proved: &str, peer: &str) -> io::Result<()> {
     println!(
         "Instructions of x86-64, counted one by one; what the kernel does is not counted. Both boxes get the same"
     );
-    println!("input, and answer alike. The ratio is the peer's count by the proved box's.");
+    println!("input. The ratio is the peer's count by the proved box's.");
     println!("\n## The desk programs\n");
     println!("From a file to the null device, {records} records. The program's start is left out.\n");
     println!("| Stream: instructions per record | proved | peer | ratio |");
@@ -167,7 +167,7 @@ impl<'a> Programs<'a> {
 
 /// What a call takes, where so many calls make the difference of two counts.
 fn each(counts: &[u64], calls: usize) -> f64 {
-    (counts[0] - counts[1]) as f64 / calls as f64
+    (counts[0] as f64 - counts[1] as f64) / calls as f64
 }
 
 /// By how many calls all differ from few.

@@ -1,29 +1,28 @@
 -- What a host may rely on besides the equations: a refused second keeps the numbers, the numbers of a box are the record that a call
 -- left, and every line is whole.
-use Prim.Native.Nat.{ℕ, _-_, _%_, _^_, _≤_, zero-le}
+use Prim.Native.Nat.{ℕ, _-_, _≤_}
 use native.Mathlib.Omega.{arith}
 use mathlib.Core.Path.{_≡_, refl, sym, ap, _∙_}
 use mathlib.Core.Bool.{Bool, true, false, cond}
 use mathlib.Core.List.{List, []}
 use lib.Dec.{eqb}
-use lib.ListN.{length, replicate, length-append, length-replicate}
+use lib.ListN.{length, replicate}
 use lib.Seq.{take-all}
 use Rattle.rules.specs.declared.Record.{Record}
-use Rattle.rules.specs.Record.{sound}
+use Rattle.rules.specs.Record.{fresh, sound}
 use Rattle.rules.specs.Calls.{State, report, Tick}
-use Rattle.rules.proofs.Theorems.{refused-keeps}
+use Rattle.rules.specs.Machine.{runBy}
+use Rattle.rules.specs.Promises.{Ringed}
+use Rattle.rules.proofs.Theorems.{refused-keeps, run-sound}
 use Rattle.answers.specs.Told.{stateOf}
-use Rattle.answers.proofs.Lending.{lent-within}
-use Rattle.desk_text.specs.Digits.{mostDigits}
 use Rattle.desk_text.specs.Put.{fitting}
-use Rattle.desk_text.proofs.Putting.{length-digits}
 use Rattle.desk_line.specs.Line.{lineRoom}
-use Rattle.desk_line.proofs.Bound.{step-bound}
-use Rattle.stored.specs.Stored.{wordCount, kept, recorded, isBox}
+use Rattle.stored.specs.Stored.{wordCount, kept, recorded, allFit, isBox}
 use Rattle.stored.proofs.Back.{kept-recorded, recorded-kept}
-use Rattle.working.proofs.Doing.{box-fits, box-sound}
-use Rattle.desk_stream.specs.Desk.{Heard, calling, wrong, hears, replyRoom, callWith, badText}
-use Rattle.desk_stream.specs.Window.{waitingIn, brokenAt, waits, pieceOf, piece}
+use Rattle.stored.proofs.Boxes.{box-fits, boxed, as-sound}
+use Rattle.desk_stream.specs.Desk.{replyRoom, badText}
+use Rattle.desk_stream.specs.Window.{piece}
+use Rattle.desk_stream.proofs.Pieces.{bad-short, piece-short}
 use Rattle.desk_stream.specs.Boxed.{unsoundNumber}
 use Rattle.host_tick.specs.Second.{secondOf}
 use Rattle.bench_box.specs.Host.{tickNumber, tickWords}
@@ -40,11 +39,18 @@ tick-keeps ws n l e = go (isBox ws n) refl e
         ∙ kept-recorded ws l (box-fits ws n h)
     go false h f = refl
 
--- the numbers that a call leaves, loaded again, are the record that it left; where they are a box, it is sound
-pub left-again : (ws : List ℕ) (r : Record) (n : ℕ) → ws ≡ kept r → (recorded ws ≡ r) × (isBox ws n ≡ true → sound r n ≡ true)
-left-again ws r n e =
+-- the numbers that a call leaves are the record that it left, and a box exactly where that is sound
+pub left-again : (ws : List ℕ) (r : Record) (n : ℕ) → ws ≡ kept r → allFit ws ≡ true → (recorded ws ≡ r) × (isBox ws n ≡ sound r n)
+left-again ws r n e f =
     let same : recorded ws ≡ r = ap recorded e ∙ recorded-kept r in
-    (same, λ b. ap (λ (x : Record). sound x n) (sym same) ∙ box-sound ws n b)
+    (same, sym (as-sound ws n f refl refl) ∙ ap (λ (x : Record). sound x n) same)
+
+-- a fresh box is one, with every ring that the paper has
+pub fresh-box : (ring : List ℕ) → Ringed ring → isBox (kept fresh) (length ring) ≡ true
+unfolding kept allFit runBy
+fresh-box ring l =
+    let s : sound fresh (length ring) ≡ true = run-sound ring l [] in
+    boxed (kept fresh) (length ring) refl (ap (λ (x : Record). sound x (length ring)) (recorded-kept fresh) ∙ s)
 
 -- with room for a line every text is whole: a bad record's, and that of any record with a reply that the desk would lend
 module _ (offset : ℕ) (lines : List ℕ) (room : lineRoom ≤ length lines) where
@@ -52,22 +58,8 @@ module _ (offset : ℕ) (lines : List ℕ) (room : lineRoom ≤ length lines) wh
   whole t h = take-all (length lines - 0) t (omega arith)
 
   pub bad-whole : fitting lines 0 (badText offset) ≡ badText offset
-  unfolding badText
-  bad-whole = whole (badText offset) (simp length-append (omega (arith, length-digits mostDigits (offset % 2 ^ 64))))
+  bad-whole = whole (badText offset) (bad-short offset)
 
-  module _ (box : State) (input reply : List ℕ) (lends : length reply ≤ replyRoom) where
-    by : (h : Heard)
-        → fitting lines 0 (pieceOf (length reply) offset true box input h .text) ≡ pieceOf (length reply) offset true box input h .text
-    by (calling k q given size) =
-        let zeros : List ℕ = replicate (length reply) 0 in
-        whole _ (step-bound k box (callWith (length reply) q given) (omega (arith, lent-within q given zeros, length-replicate {A = ℕ} (length reply) 0)))
-    by wrong = go (waits true input)
-      where
-        go : (w : Bool)
-            → fitting lines 0 (cond w (waitingIn box) (brokenAt offset box) .text) ≡ cond w (waitingIn box) (brokenAt offset box) .text
-        go true = whole [] zero-le
-        go false = bad-whole
-
-    pub line-whole : fitting lines 0 (piece (length reply) offset true box input .text) ≡ piece (length reply) offset true box input .text
-    unfolding piece
-    line-whole = by (hears input)
+  pub line-whole : (box : State) (input reply : List ℕ) → length reply ≤ replyRoom
+      → fitting lines 0 (piece (length reply) offset true box input .text) ≡ piece (length reply) offset true box input .text
+  line-whole box input reply lends = whole _ (piece-short offset true box input (length reply) lends)

@@ -13,7 +13,7 @@ use Rattle.answers.specs.Told.{stateOf, numberTold}
 use Rattle.stored.specs.Stored.{kept, recorded, isBox}
 use Rattle.stored.proofs.Back.{recorded-kept}
 use Rattle.working.specs.Worked.{Does}
-use Rattle.working.proofs.Doing.{box-sound, boxed}
+use Rattle.stored.proofs.Boxes.{box-sound, boxed}
 use Rattle.desk_stream.specs.Boxed.{unsoundNumber}
 use Rattle.host_tick.specs.Second.{secondOf}
 use Rattle.bench_box.specs.Host.{tickNumber, tickWords}

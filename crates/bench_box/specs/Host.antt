@@ -34,8 +34,8 @@ abbrev pub flag : Bool → ℕ
 flag b = cond b 1 0
 
 -- the progress is three numbers: bytes read, bytes of text written, and 1 after a bad record
-abbrev pub leftBy : Came → Left
-leftBy c =
+abbrev pub toHost : Came → Left
+toHost c =
     record {
       number = c .number;
       words = c .words;

@@ -1,5 +1,6 @@
 // The box for a host in C: include/bench_box.h says it in C's words. A box is its numbers; whatever they are, each function answers.
 use desk_stream::Came;
+use desk_stream::UNSOUND;
 use rules::Record;
 use stored::WORDS;
 ghost use mathlib.Core.Path.{_≡_};
@@ -9,9 +10,7 @@ ghost use lib.ListN.{length as len};
 ghost use Rattle.rules.specs.Record.{fresh};
 ghost use Rattle.stored.specs.Stored.{kept, allFit, isBox};
 ghost use Rattle.desk_stream.specs.Boxed.{serving, performing};
-ghost use Rattle.bench_box.specs.Host.{tickNumber, tickWords, answerTo, flag, leftBy};
-
-const UNSOUND: u16 = 604;
+ghost use Rattle.bench_box.specs.Host.{tickNumber, tickWords, answerTo, flag, toHost};
 
 // The answer to a question that is none.
 const NONE: u64 = 18446744073709551615;
@@ -46,7 +45,7 @@ pub extern "C" fn bench_box_tick(words: &mut [u64; WORDS], length: usize) -> u16
     ensures { λ _. ⌜ now (words .exit) ≡ tickWords (now (words .entry)) length ⌝ }
     ensures { λ _. ⌜ isBox (now (words .exit)) length ≡ isBox (now (words .entry)) length ⌝ }
 {
-    if !working::is_box(words, length) {
+    if !stored::is_box(words, length) {
         return UNSOUND;
     }
     let answer = working::tick(words);
@@ -57,7 +56,7 @@ pub extern "C" fn bench_box_tick(words: &mut [u64; WORDS], length: usize) -> u16
 pub extern "C" fn bench_box_ask(words: &[u64; WORDS], length: usize, question: usize) -> u64
     ensures { λ n. ⌜ n ≡ answerTo (now (words .entry)) length question ⌝ }
 {
-    if working::is_box(words, length) {
+    if stored::is_box(words, length) {
         if question < WORDS {
             return words[question];
         }
@@ -83,7 +82,7 @@ pub extern "C" fn bench_box_serve(
       lines = now (lines .exit);
       progress = now (progress .exit);
     }
-        ≡ leftBy (serving (now (words .entry)) (now (ring .entry)) (now (input .entry)) offset last (now (lines .entry))) ⌝ }
+        ≡ toHost (serving (now (words .entry)) (now (ring .entry)) (now (input .entry)) offset last (now (lines .entry))) ⌝ }
     ensures { λ _. ⌜ isBox (now (words .exit)) (len (now (ring .exit))) ≡ isBox (now (words .entry)) (len (now (ring .entry))) ⌝ }
 {
     let came = desk_stream::serve(words, ring, input, offset, last, lines);
@@ -109,7 +108,7 @@ pub extern "C" fn bench_box_perform(
       lines = now (line .exit);
       progress = now (progress .exit);
     }
-        ≡ leftBy (performing (now (words .entry)) (now (ring .entry)) (now (reply .entry)) (now (input .entry)) offset (now (line .entry))) ⌝ }
+        ≡ toHost (performing (now (words .entry)) (now (ring .entry)) (now (reply .entry)) (now (input .entry)) offset (now (line .entry))) ⌝ }
     ensures { λ _. ⌜ isBox (now (words .exit)) (len (now (ring .exit))) ≡ isBox (now (words .entry)) (len (now (ring .entry))) ⌝ }
 {
     let one = desk_stream::perform(words, ring, reply, input, offset, line);

@@ -1,21 +1,20 @@
 -- For any numbers: those that are no box are left alone; for a box, what the code holds is what the definitions give.
-use Prim.Native.Nat.{ℕ, _+_, _≤_, zero-le}
+use Prim.Native.Nat.{ℕ, _+_}
 use mathlib.Core.Path.{_≡_, refl, sym, ap, _∙_}
 use mathlib.Core.Bool.{Bool, true, false, cond}
 use mathlib.Core.List.{List, []}
 use native.Mathlib.Nat.{zero-add, add-zero}
 use lib.Dec.{leb}
 use lib.ListN.{length}
-use Rattle.rules.specs.Calls.{State}
 use Rattle.answers.specs.Told.{stateOf}
 use Rattle.desk_text.proofs.Putting.{put-none}
 use Rattle.desk_line.specs.Line.{lineRoom}
-use Rattle.stored.specs.Stored.{wordCount, kept, recorded, isBox}
+use Rattle.stored.specs.Stored.{wordCount, recorded, isBox}
 use Rattle.stored.proofs.Back.{kept-recorded}
-use Rattle.working.proofs.Doing.{box-fits}
+use Rattle.stored.proofs.Boxes.{box-fits}
 use Rattle.desk_stream.specs.Desk.{hears}
-use Rattle.desk_stream.specs.Window.{Piece, waitingIn, piece, repliedIn, Progress, outset, served}
-use Rattle.desk_stream.specs.Held.{Turns, Holds, Serves}
+use Rattle.desk_stream.specs.Window.{Piece, waitingIn, piece, repliedIn, outset, served}
+use Rattle.desk_stream.specs.Held.{Turns, Serves}
 use Rattle.desk_stream.specs.Boxed.{Came, asItWas, windowed, serving, saying, oneOf, onceIn, performing}
 
 module _ (ws ring input : List ℕ) (base : ℕ) where

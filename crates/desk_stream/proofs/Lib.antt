@@ -1,8 +1,8 @@
-pub mod Turns
 pub mod Replies
 pub mod Input
 pub mod Hearing
 pub mod Pieces
+pub mod Turns
 pub mod Windows
 pub mod Serving
 pub mod Boxing

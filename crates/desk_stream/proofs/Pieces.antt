@@ -4,7 +4,7 @@ use mathlib.Core.Path.{_≡_, refl, sym, ap, _∙_, subst}
 use mathlib.Core.Bool.{Bool, true, false, not, cond, _&&_, true≢false, false≢true}
 use mathlib.Core.List.{List, []}
 use native.Mathlib.Omega.{arith}
-use lib.ListN.{length, drop, length-append}
+use lib.ListN.{length, drop, replicate, length-append, length-replicate}
 use Rattle.rules.specs.Calls.{State}
 use Rattle.rules.specs.Machine.{step}
 use Rattle.answers.specs.declared.Request.{Request}
@@ -20,14 +20,14 @@ use Rattle.desk_text.specs.Digits.{mostDigits}
 use Rattle.desk_text.proofs.Putting.{put-none, moved, length-digits}
 use Rattle.desk_line.specs.Line.{lineRoom}
 use Rattle.desk_line.proofs.Bound.{step-bound}
-use Rattle.desk_stream.specs.Desk.{Heard, calling, wrong, hears, replyRoom, callWith, deskCall, badLine, badText}
+use Rattle.desk_stream.specs.Desk.{Heard, calling, wrong, hears, replyRoom, callWith, badLine, badText}
 use Rattle.desk_stream.specs.Window.{Piece, answeredBy, brokenAt, waitingIn, waits, unheardIn, pieceOf, piece, repliedIn}
 use Rattle.stored.specs.Stored.{kept, isBox}
 use Rattle.desk_stream.specs.Held.{Turns}
 use Rattle.desk_stream.proofs.Hearing.{heard-whole, heard-asking}
-use Rattle.desk_stream.proofs.Replies.{lent-room}
+use Rattle.answers.proofs.Lending.{lent-within}
 
-bad-short : (at : ℕ) → length (badText at) ≤ lineRoom
+pub bad-short : (at : ℕ) → length (badText at) ≤ lineRoom
 unfolding badText
 bad-short at = simp length-append (omega (arith, length-digits mostDigits (at % 2 ^ 64)))
 
@@ -67,13 +67,16 @@ module _ (at : ℕ) (last : Bool) (box : State) (s : List ℕ) where
   pub unheard-number : unheardIn at last box s .number ≡ 0
   unheard-number = unheard-either (λ (p : Piece). p .number ≡ 0) refl refl
 
-  short-by : (h : Heard) → length (pieceOf replyRoom at last box s h .text) ≤ lineRoom
-  short-by (calling k q given size) = step-bound k box (deskCall q given) (lent-room q given)
-  short-by wrong = unheard-either (λ (p : Piece). length (p .text) ≤ lineRoom) zero-le (bad-short at)
+  -- with a reply no longer than the desk's
+  short-by : (room : ℕ) → room ≤ replyRoom → (h : Heard) → length (pieceOf room at last box s h .text) ≤ lineRoom
+  short-by room l (calling k q given size) =
+      step-bound k box (callWith room q given)
+      (omega (arith, lent-within q given (replicate room 0), length-replicate {A = ℕ} room 0, l))
+  short-by room l wrong = unheard-either (λ (p : Piece). length (p .text) ≤ lineRoom) zero-le (bad-short at)
 
-  pub piece-short : length (piece replyRoom at last box s .text) ≤ lineRoom
+  pub piece-short : (room : ℕ) → room ≤ replyRoom → length (piece room at last box s .text) ≤ lineRoom
   unfolding piece
-  piece-short = short-by (hears s)
+  piece-short room l = short-by room l (hears s)
 
   goes-by : (room : ℕ) (h : Heard) → 0 < pieceOf room at last box s h .size → pieceOf room at last box s h .ended ≡ false
   goes-by room (calling k q given size) g = refl

@@ -1,6 +1,5 @@
 -- What a lent reply held before matters to no answer.
-use Prim.Native.Nat.{ℕ, _≤_}
-use native.Mathlib.Omega.{arith}
+use Prim.Native.Nat.{ℕ}
 use mathlib.Core.Path.{_≡_, refl, sym, ap, _∙_}
 use mathlib.Core.Bool.{true, false}
 use mathlib.Core.List.{List, [], _∷_}
@@ -13,17 +12,17 @@ use Rattle.answers.specs.declared.Answer.{Answer}
 use Rattle.answers.specs.declared.After.{After}
 use Rattle.answers.specs.Asked.{asked}
 use Rattle.answers.specs.Told.{numberTold, valuesTold, stateOf}
-use Rattle.answers.proofs.Lending.{Lending, fetches, lends-none, lending, lent-within, told-beside}
+use Rattle.answers.proofs.Lending.{Lending, fetches, lends-none, lending, told-beside}
 use Rattle.rules.specs.declared.Record.{Record}
 use Rattle.rules.proofs.Theorems.{step-sound}
 use Rattle.stored.specs.Stored.{kept, allFit, recorded, isBox}
 use Rattle.stored.proofs.Back.{recorded-kept}
 use Rattle.working.specs.Worked.{Works}
-use Rattle.working.proofs.Doing.{box-sound, boxed}
+use Rattle.stored.proofs.Boxes.{box-sound, boxed}
 use Rattle.desk_text.specs.Put.{Puts}
 use Rattle.desk_text.proofs.Putting.{moved}
 use Rattle.desk_line.specs.Line.{lineOf}
-use Rattle.desk_stream.specs.Desk.{replyRoom, callWith, deskCall}
+use Rattle.desk_stream.specs.Desk.{callWith}
 use Rattle.desk_stream.specs.Window.{answeredBy}
 use Rattle.desk_stream.specs.Held.{Turns}
 
@@ -109,6 +108,3 @@ module _ (q : Request) (given ws ring reply : List ℕ) {a : Answer} {ws' ring' 
         rings = ap (λ (x : State). x .bytes) state;
         box = still-box;
       }
-
-pub lent-room : (q : Request) (given : List ℕ) → length (lent (deskCall q given)) ≤ replyRoom
-lent-room q given = omega (arith, lent-within q given (replicate replyRoom 0), length-replicate {A = ℕ} replyRoom 0)

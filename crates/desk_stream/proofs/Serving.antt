@@ -8,8 +8,7 @@ use native.Mathlib.Omega.{arith}
 use lib.Dec.{leb}
 use lib.ListN.{length, drop, length-append, length-drop}
 use lib.Seq.{drop-drop}
-use borrow.Author.Tests.{leb-true, leb-false, le-leb, lt-leb, not-true, not-false}
-use Rattle.rules.specs.declared.Record.{Record}
+use borrow.Author.Tests.{leb-true, not-true, not-false}
 use Rattle.rules.specs.Calls.{State}
 use Rattle.answers.specs.Told.{stateOf}
 use Rattle.desk_text.specs.Put.{Puts}
@@ -17,7 +16,7 @@ use Rattle.desk_text.proofs.Putting.{put-none, then, size, whole-next, whole-st
 use Rattle.desk_line.specs.Line.{lineRoom}
 use Rattle.stored.specs.Stored.{wordCount, kept, recorded, isBox}
 use Rattle.stored.proofs.Back.{kept-recorded, recorded-kept}
-use Rattle.working.proofs.Doing.{box-fits}
+use Rattle.stored.proofs.Boxes.{box-fits}
 use Rattle.desk_stream.specs.Desk.{replyRoom}
 use Rattle.desk_stream.specs.Window.{Piece, piece, Progress, outset, took, served}
 use Rattle.desk_stream.specs.Held.{Turns, Holds}
@@ -134,8 +133,7 @@ module _ {s : List ℕ} {base : ℕ} {last : Bool} {ws₀ ring₀ reply₀ out�
           (omega (
             arith,
             leb-true (length (here .text) + lineRoom) (length out₀) room-left,
-            piece-short (base + at) last (stateOf (recorded ws) ring)
-                (drop at s),
+            piece-short (base + at) last (stateOf (recorded ws) ring) (drop at s) replyRoom (omega arith),
           ))
 
       reaches : at + p .size ≤ length s

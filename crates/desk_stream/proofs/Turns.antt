@@ -12,6 +12,7 @@ use Rattle.answers.specs.declared.Request.{Request}
 use Rattle.desk_stream.specs.Desk.{Heard, calling, wrong, hears, replyRoom, deskCall, badText}
 use Rattle.desk_stream.specs.Window.{Piece, answeredBy, brokenAt, waitingIn, waits, unheardIn, pieceOf}
 use Rattle.desk_stream.specs.Window.{piece, Progress, took, onward, turned, roomy, served}
+use Rattle.desk_stream.proofs.Pieces.{unheard-empty}
 
 -- a record answered, and a bad one
 abbrev pub answered : ℕ → Outcome → ℕ → Progress → Progress
@@ -28,13 +29,6 @@ took-none base last s p = go (waits last s)
     go : (w : Bool) → took p (cond w (waitingIn (p .box)) (brokenAt (base + p .place) (p .box))) ≡ cond w p (broken base p)
     go true = rw (add-zero (p .place), append-nil (p .text)) refl
     go false = ap (λ (n : ℕ). record { box = p .box; place = n; text = p .text ++ badText (base + p .place); ended = true }) (add-zero (p .place))
-
-size-none : (at : ℕ) (last : Bool) (s : List ℕ) (p : Progress) → unheardIn at last (p .box) s .size ≡ 0
-size-none at last s p = go (waits last s)
-  where
-    go : (w : Bool) → cond w (waitingIn (p .box)) (brokenAt at (p .box)) .size ≡ 0
-    go true = refl
-    go false = refl
 
 module _ (base : ℕ) (last : Bool) (room : ℕ) where
   abbrev rest : List ℕ → ℕ → Progress → Progress
@@ -88,7 +82,7 @@ module _ (base : ℕ) (last : Bool) (room : ℕ) where
   turns-none p b s r e =
       let t = unheardIn (base + p .place) last (p .box) (b ∷ s) in
       turns p b s wrong r e
-      ∙ ap (λ (n : ℕ). onward n (took p t) (rest s)) (size-none (base + p .place) last (b ∷ s) p)
+      ∙ ap (λ (n : ℕ). onward n (took p t) (rest s)) (unheard-empty (base + p .place) last (p .box) (b ∷ s))
       ∙ took-none base last (b ∷ s) p
 
   pub none : (p : Progress) (s : List ℕ) → 0 < length s → roomy base last room p ≡ true → hears s ≡ wrong

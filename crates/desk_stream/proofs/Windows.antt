@@ -12,7 +12,7 @@ use Rattle.answers.specs.declared.Request.{Request}
 use Rattle.desk_records.specs.Reading.{cut}
 use Rattle.desk_line.specs.Line.{lineFor}
 use Rattle.desk_stream.specs.Desk.{Heard, calling, wrong, hears, deskCall, badLine, badText, ringRoom, deskText}
-use Rattle.desk_stream.specs.Window.{waits, Progress, outset, roomy, served}
+use Rattle.desk_stream.specs.Window.{Progress, outset, roomy, served}
 use Rattle.desk_stream.specs.Runs.{Prints, bad, end, more}
 use Rattle.desk_stream.proofs.Turns.{answered, broken, turns-on, turns-none, no-room}
 use Rattle.desk_stream.proofs.Input.{textFrom, nothing-left, one-more, one-bad}

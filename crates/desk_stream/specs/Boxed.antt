@@ -9,7 +9,7 @@ use Rattle.answers.specs.Told.{stateOf}
 use Rattle.desk_text.specs.Put.{fitting, overlaid}
 use Rattle.desk_line.specs.Line.{lineRoom}
 use Rattle.stored.specs.Stored.{kept, recorded, isBox}
-use Rattle.desk_stream.specs.Desk.{Heard, hears}
+use Rattle.desk_stream.specs.Desk.{hears}
 use Rattle.desk_stream.specs.Window.{Piece, waitingIn, piece, repliedIn, Progress, outset, served}
 
 -- the box that numbers and a ring are

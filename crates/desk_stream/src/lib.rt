@@ -21,7 +21,8 @@ ghost use Rattle.desk_stream.specs.Boxed.{boxIn, serving, performing};
 // The reply that serves all fetches of a window.
 const REPLY_ROOM: usize = 259;
 
-const UNSOUND: u16 = 604;
+// The number for numbers that are no box.
+pub const UNSOUND: u16 = 604;
 
 // What came of a record, or of a window of them: the number, how far the input is read, how much text stands in the lines, and
 // whether a bad record was met.
@@ -220,7 +221,7 @@ pub fn serve(
     ensures { λ t. ⌜ t .written ≤ length (now (out .exit)) ⌝ }
     ensures { λ _. ⌜ isBox (now (w .exit)) (length (now (ring .exit))) ≡ isBox (now (w .entry)) (length (now (ring .entry))) ⌝ }
 {
-    if !working::is_box(w, ring.len()) {
+    if !stored::is_box(w, ring.len()) {
         return unsound();
     }
     let mut reply = [0; REPLY_ROOM];
@@ -249,7 +250,7 @@ pub fn perform(
         ≡ performing (now (w .entry)) (now (ring .entry)) (now (reply .entry)) (now (s .entry)) offset (now (out .entry)) ⌝ }
     ensures { λ _. ⌜ isBox (now (w .exit)) (length (now (ring .exit))) ≡ isBox (now (w .entry)) (length (now (ring .entry))) ⌝ }
 {
-    if !working::is_box(w, ring.len()) {
+    if !stored::is_box(w, ring.len()) {
         return unsound();
     }
     stored::count(*w);

@@ -1,9 +1,9 @@
 -- The whole, from its parts: numbers written part by part are the record's; a record's numbers make it again; and numbers that fit
 -- are those of the record that they make.
-use Prim.Native.Nat.{ℕ, zero, suc, _+_, _<_}
+use Prim.Native.Nat.{ℕ, zero, suc, _+_, _-_, _<_}
 use mathlib.Core.Path.{_≡_, refl, sym, _∙_, ap}
-use mathlib.Core.Bool.{Bool, true, _&&_}
-use mathlib.Core.List.{List, [], _∷_, _++_}
+use mathlib.Core.Bool.{true}
+use mathlib.Core.List.{List, [], _∷_}
 use native.Mathlib.Omega.{arith}
 use lib.ListN.{length, set, drop, drop-of-length-le}
 use lib.Seq.{drop-cons}
@@ -18,10 +18,10 @@ use Rattle.rules.specs.Record.{every}
 use Rattle.rules.specs.Moves.{withRing, withFeeder, quietAt}
 use Rattle.rules.proofs.Sound.{holds, all}
 use Rattle.stored.specs.Stored.{scanNumber, feedNumber, failureNumber, scanAt, feedAt, failureAt, numberAt, from, written, wordCount, version, kept}
-use Rattle.stored.specs.Stored.{scannerAt, scannerKept, scannerFits, jobAt, jobKept, jobFits, sideAt, sideKept, sideFits, settingsAt, settingsKept}
-use Rattle.stored.specs.Stored.{settingsFits, feederAt, feederKept, feederFits, ringAt, ringKept, fitting, allFit, recorded, words, heardIn, fedIn}
+use Rattle.stored.specs.Stored.{scannerAt, scannerKept, jobAt, jobKept, jobFits, sideAt, sideKept, sideFits, settingsAt, settingsKept}
+use Rattle.stored.specs.Stored.{settingsFits, feederAt, feederKept, feederFits, ringAt, ringKept, fitting, allFit, recorded, wide16, heardIn, fedIn}
 use Rattle.stored.proofs.Widths.{scanner-below, feeder-below, scanner-fits, quiet-fits}
-use Rattle.stored.proofs.Rows.{rows-joined, row-whole}
+use Rattle.stored.proofs.Rows.{row-whole}
 
 -- ---- states and codes
 scan-back : (n : ℕ) → n < 5 → scanNumber (scanAt n) ≡ n
@@ -99,7 +99,7 @@ module _ (r : Record) where
   fed-kept f = refl
 
   module _ (fit : allFit (kept r) ≡ true) where
-    pub heard-fits : (q : ℕ) (g : Ring) → q < words → allFit (kept (quietAt q (withRing g r))) ≡ true
+    pub heard-fits : (q : ℕ) (g : Ring) → q < wide16 → allFit (kept (quietAt q (withRing g r))) ≡ true
     unfolding kept allFit
     heard-fits q g h =
         let f = holds (fitting (kept r)) fit in
@@ -132,4 +132,4 @@ kept-recorded ws e f =
       failure-back (from ws scannerAt 1) (s .1),
       feed-back (from ws feederAt 0) (g .0),
       failure-back (from ws feederAt 1) (g .1),
-    ) (ap (λ (v : ℕ). v ∷ places 18 1 ws) (sym (eqb-true (numberAt ws 0) version (h .0))) ∙ sym (spell 19 0 ws e))
+    ) (ap (λ (v : ℕ). v ∷ places (wordCount - 1) 1 ws) (sym (eqb-true (numberAt ws 0) version (h .0))) ∙ sym (spell wordCount 0 ws e))

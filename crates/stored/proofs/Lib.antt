@@ -1,3 +1,4 @@
 pub mod Widths
 pub mod Rows
 pub mod Back
+pub mod Boxes

@@ -4,20 +4,12 @@ use mathlib.Core.Path.{_≡_, refl, sym, ap, _∙_}
 use mathlib.Core.Bool.{Bool, true, false, _&&_, false≢true}
 use mathlib.Core.List.{List, [], _∷_, _++_}
 use native.Mathlib.Omega.{arith}
-use native.Mathlib.Nat.{add-zero}
 use lib.ListN.{length, getD, set}
 use Rattle.rules.specs.Record.{everyAfter, every}
 use Rattle.rules.proofs.Sound.{Holds}
 use Rattle.stored.specs.Stored.{written}
 
 -- ---- rows
--- one row behind the other is one row
-pub rows-joined : (at : ℕ) (ns ms ws : List ℕ) → written (at + length ns) ms (written at ns ws) ≡ written at (ns ++ ms) ws
-rows-joined at [] ms ws = ap (λ (k : ℕ). written k ms ws) (add-zero at)
-rows-joined at (n ∷ ns) ms ws =
-    let on : at + suc (length ns) ≡ at + 1 + length ns = omega arith in
-    ap (λ (k : ℕ). written k ms (written (at + 1) ns (set ws at n))) on ∙ rows-joined (at + 1) ns ms (set ws at n)
-
 behind : (at : ℕ) (ns : List ℕ) (w : ℕ) (ws : List ℕ) → written (suc at) ns (w ∷ ws) ≡ w ∷ written at ns ws
 behind at [] w ws = refl
 behind at (n ∷ ns) w ws =

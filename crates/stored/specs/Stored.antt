@@ -58,17 +58,20 @@ abbrev pub written : ℕ → List ℕ → List ℕ → List ℕ
 written at [] ws = ws
 written at (n ∷ ns) ws = written (at + 1) ns (set ws at n)
 
--- the widths of 32, 16 and 8 bits
-abbrev pub longs : ℕ
-longs = 4294967296
+-- how many numbers fit 32, 16 and 8 bits
+abbrev pub wide32 : ℕ
+wide32 = 4294967296
 
-abbrev pub words : ℕ
-words = 65536
+abbrev pub wide16 : ℕ
+wide16 = 65536
 
-abbrev pub bytes : ℕ
-bytes = 256
+abbrev pub wide8 : ℕ
+wide8 = 256
 
--- ---- each part: where it begins, its numbers, whether numbers fit its fields, and the part that they are
+-- ---- each part: how many numbers it has, where it begins, its numbers, whether numbers fit its fields, and the part that they are
+abbrev pub scannerLength : ℕ
+scannerLength = 2
+
 abbrev pub scannerAt : ℕ
 scannerAt = 1
 
@@ -81,57 +84,72 @@ scannerFits n = ltb (n 0) 5 ∷ ltb (n 1) 3 ∷ []
 abbrev pub scannerIn : (ℕ → ℕ) → Scanner
 scannerIn n = record { state = scanAt (n 0); failure = failureAt (n 1) }
 
+abbrev pub jobLength : ℕ
+jobLength = 5
+
 abbrev pub jobAt : ℕ
-jobAt = scannerAt + 2
+jobAt = scannerAt + scannerLength
 
 abbrev pub jobKept : Job → List ℕ
 jobKept j = j .held ∷ j .last ∷ j .granted .seconds ∷ j .quiet ∷ j .stop ∷ []
 
 abbrev pub jobFits : (ℕ → ℕ) → List Bool
-jobFits n = ltb (n 0) longs ∷ ltb (n 1) longs ∷ ltb (n 2) words ∷ ltb (n 3) words ∷ ltb (n 4) bytes ∷ []
+jobFits n = ltb (n 0) wide32 ∷ ltb (n 1) wide32 ∷ ltb (n 2) wide16 ∷ ltb (n 3) wide16 ∷ ltb (n 4) wide8 ∷ []
 
 abbrev pub jobIn : (ℕ → ℕ) → Job
 jobIn n = record { held = n 0; last = n 1; granted = record { seconds = n 2 }; quiet = n 3; stop = n 4 }
 
+abbrev pub sideLength : ℕ
+sideLength = 3
+
 abbrev pub sideAt : ℕ
-sideAt = jobAt + 5
+sideAt = jobAt + jobLength
 
 abbrev pub sideKept : Side → List ℕ
 sideKept d = d .number ∷ d .count ∷ d .destination ∷ []
 
 abbrev pub sideFits : (ℕ → ℕ) → List Bool
-sideFits n = ltb (n 0) words ∷ ltb (n 1) longs ∷ ltb (n 2) longs ∷ []
+sideFits n = ltb (n 0) wide16 ∷ ltb (n 1) wide32 ∷ ltb (n 2) wide32 ∷ []
 
 abbrev pub sideIn : (ℕ → ℕ) → Side
 sideIn n = record { number = n 0; count = n 1; destination = n 2 }
 
+abbrev pub settingsLength : ℕ
+settingsLength = 2
+
 abbrev pub settingsAt : ℕ
-settingsAt = sideAt + 3
+settingsAt = sideAt + sideLength
 
 abbrev pub settingsKept : Settings → List ℕ
 settingsKept t = t .feeder ∷ t .append ∷ []
 
 abbrev pub settingsFits : (ℕ → ℕ) → List Bool
-settingsFits n = ltb (n 0) bytes ∷ ltb (n 1) bytes ∷ []
+settingsFits n = ltb (n 0) wide8 ∷ ltb (n 1) wide8 ∷ []
 
 abbrev pub settingsIn : (ℕ → ℕ) → Settings
 settingsIn n = record { feeder = n 0; append = n 1 }
 
+abbrev pub feederLength : ℕ
+feederLength = 4
+
 abbrev pub feederAt : ℕ
-feederAt = settingsAt + 2
+feederAt = settingsAt + settingsLength
 
 abbrev pub feederKept : Feeder → List ℕ
 feederKept f = feedNumber (f .state) ∷ failureNumber (f .failure) ∷ f .tray ∷ f .path ∷ []
 
 abbrev pub feederFits : (ℕ → ℕ) → List Bool
-feederFits n = ltb (n 0) 4 ∷ ltb (n 1) 3 ∷ ltb (n 2) bytes ∷ ltb (n 3) bytes ∷ []
+feederFits n = ltb (n 0) 4 ∷ ltb (n 1) 3 ∷ ltb (n 2) wide8 ∷ ltb (n 3) wide8 ∷ []
 
 abbrev pub feederIn : (ℕ → ℕ) → Feeder
 feederIn n = record { state = feedAt (n 0); failure = failureAt (n 1); tray = n 2; path = n 3 }
 
 -- the ring's two are as wide as a number
+abbrev pub ringLength : ℕ
+ringLength = 2
+
 abbrev pub ringAt : ℕ
-ringAt = feederAt + 4
+ringAt = feederAt + feederLength
 
 abbrev pub ringKept : Ring → List ℕ
 ringKept g = g .start ∷ g .stored ∷ []
@@ -157,7 +175,7 @@ version = 1
 
 -- how many numbers there are
 abbrev pub wordCount : ℕ
-wordCount = ringAt + 2
+wordCount = ringAt + ringLength
 
 unfoldable pub kept : Record → List ℕ
 kept r =

@@ -12,15 +12,18 @@ ghost use Rattle.stored.specs.Stored.{numberAt, from, written, feederAt,
 
 const AT: usize = at_settings::END;
 
-pub const STATE: usize = AT;
+pub(crate) const STATE: usize = AT;
 
-pub const FAILURE: usize = AT + 1;
+pub(crate) const FAILURE: usize = AT + 1;
 
-pub const TRAY: usize = AT + 2;
+pub(crate) const TRAY: usize = AT + 2;
 
-pub const PATH: usize = AT + 3;
+pub(crate) const PATH: usize = AT + 3;
 
-pub(crate) const END: usize = AT + 4;
+// How many numbers the part has.
+const LENGTH: usize = 4;
+
+pub(crate) const END: usize = AT + LENGTH;
 
 pub(crate) fn fits(w: &[u64; WORDS]) -> bool
     ensures { λ b. ⌜ b ≡ every (feederFits (from (now (w .entry)) feederAt)) ⌝ }

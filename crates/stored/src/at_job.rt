@@ -16,17 +16,20 @@ ghost use Rattle.stored.specs.Stored.{numberAt, from, written, jobAt, jo
 
 const AT: usize = at_scanner::END;
 
-pub const HELD: usize = AT;
+pub(crate) const HELD: usize = AT;
 
-pub const LAST: usize = AT + 1;
+pub(crate) const LAST: usize = AT + 1;
 
-pub const GRANTED: usize = AT + 2;
+pub(crate) const GRANTED: usize = AT + 2;
 
-pub const QUIET: usize = AT + 3;
+pub(crate) const QUIET: usize = AT + 3;
 
-pub const STOP: usize = AT + 4;
+pub(crate) const STOP: usize = AT + 4;
 
-pub(crate) const END: usize = AT + 5;
+// How many numbers the part has.
+const LENGTH: usize = 5;
+
+pub(crate) const END: usize = AT + LENGTH;
 
 pub(crate) fn fits(w: &[u64; WORDS]) -> bool
     ensures { λ b. ⌜ b ≡ every (jobFits (from (now (w .entry)) jobAt)) ⌝ }

@@ -8,11 +8,14 @@ ghost use Rattle.stored.specs.Stored.{from, written, ringAt, ringKept, r
 
 const AT: usize = at_feeder::END;
 
-pub const START: usize = AT;
+pub(crate) const START: usize = AT;
 
-pub const STORED: usize = AT + 1;
+pub(crate) const STORED: usize = AT + 1;
 
-pub(crate) const END: usize = AT + 2;
+// How many numbers the part has.
+const LENGTH: usize = 2;
+
+pub(crate) const END: usize = AT + LENGTH;
 
 pub(crate) fn load(w: &[u64; WORDS]) -> Ring
     ensures { λ g. ⌜ g ≡ ringIn (from (now (w .entry)) ringAt) ⌝ }

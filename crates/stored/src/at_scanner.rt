@@ -3,17 +3,19 @@ use crate::WORDS;
 use crate::codes;
 use rules::Scanner;
 ghost use mathlib.Core.Path.{_≡_};
-ghost use mathlib.Core.Bool.{true};
 ghost use Rattle.rules.specs.Record.{every};
-ghost use Rattle.stored.specs.Stored.{numberAt, from, written, scannerAt, scannerKept, scannerFits, scannerIn};
+ghost use Rattle.stored.specs.Stored.{from, written, scannerAt, scannerKept, scannerFits, scannerIn};
 
 const AT: usize = 1;
 
-pub const STATE: usize = AT;
+pub(crate) const STATE: usize = AT;
 
-pub const FAILURE: usize = AT + 1;
+pub(crate) const FAILURE: usize = AT + 1;
 
-pub(crate) const END: usize = AT + 2;
+// How many numbers the part has.
+const LENGTH: usize = 2;
+
+pub(crate) const END: usize = AT + LENGTH;
 
 pub(crate) fn fits(w: &[u64; WORDS]) -> bool
     ensures { λ b. ⌜ b ≡ every (scannerFits (from (now (w .entry)) scannerAt)) ⌝ }

@@ -11,11 +11,14 @@ ghost use Rattle.stored.specs.Stored.{numberAt, from, written, settingsA
 
 const AT: usize = at_side::END;
 
-pub const FEEDER: usize = AT;
+pub(crate) const FEEDER: usize = AT;
 
-pub const APPEND: usize = AT + 1;
+pub(crate) const APPEND: usize = AT + 1;
 
-pub(crate) const END: usize = AT + 2;
+// How many numbers the part has.
+const LENGTH: usize = 2;
+
+pub(crate) const END: usize = AT + LENGTH;
 
 pub(crate) fn fits(w: &[u64; WORDS]) -> bool
     ensures { λ b. ⌜ b ≡ every (settingsFits (from (now (w .entry)) settingsAt)) ⌝ }

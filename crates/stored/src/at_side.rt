@@ -13,13 +13,16 @@ ghost use Rattle.stored.specs.Stored.{numberAt, from, written, sideAt, s
 
 const AT: usize = at_job::END;
 
-pub const NUMBER: usize = AT;
+pub(crate) const NUMBER: usize = AT;
 
-pub const COUNT: usize = AT + 1;
+pub(crate) const COUNT: usize = AT + 1;
 
-pub const DESTINATION: usize = AT + 2;
+pub(crate) const DESTINATION: usize = AT + 2;
 
-pub(crate) const END: usize = AT + 3;
+// How many numbers the part has.
+const LENGTH: usize = 3;
+
+pub(crate) const END: usize = AT + LENGTH;
 
 pub(crate) fn fits(w: &[u64; WORDS]) -> bool
     ensures { λ b. ⌜ b ≡ every (sideFits (from (now (w .entry)) sideAt)) ⌝ }

@@ -1,12 +1,12 @@
 // The record as numbers: the form in which a host keeps it, and in which the box works. A version comes first, then the record's
 // parts in a row, each in a module with the places of its fields: a part begins where the one before it ends, so that a new field
 // moves nothing but its own part's end. Any numbers get an answer.
-pub mod at_feeder;
-pub mod at_job;
-pub mod at_ring;
-pub mod at_scanner;
-pub mod at_settings;
-pub mod at_side;
+mod at_feeder;
+mod at_job;
+mod at_ring;
+mod at_scanner;
+mod at_settings;
+mod at_side;
 mod codes;
 mod fields;
 
@@ -17,7 +17,7 @@ ghost use mathlib.Core.Bool.{true};
 ghost use lib.ListN.{length};
 ghost use Prim.Native.Nat.{_<_};
 ghost use Rattle.rules.specs.Record.{every};
-ghost use Rattle.stored.specs.Stored.{numberAt, words, feederKept, feederFits, heardIn, fedIn, wordCount, kept, allFit, recorded};
+ghost use Rattle.stored.specs.Stored.{numberAt, wide16, feederKept, feederFits, heardIn, fedIn, wordCount, kept, allFit, recorded, isBox};
 
 // How many numbers there are.
 pub const WORDS: usize = at_ring::END;
@@ -74,6 +74,17 @@ pub fn load(w: &[u64; WORDS]) -> Record
     }
 }
 
+// The numbers are a record that is sound with a ring of so many bytes.
+pub fn is_box(w: &[u64; WORDS], length: usize) -> bool
+    ensures { λ b. ⌜ b ≡ isBox (now (w .entry)) length ⌝ }
+{
+    if !fits(w) {
+        return false;
+    }
+    let r = load(w);
+    sound::is_sound(r, length)
+}
+
 // A record's numbers, in the place of any others.
 pub fn keep(w: &mut [u64; WORDS], r: Record)
     ensures { λ _. ⌜ now (w .exit) ≡ kept r ⌝ }
@@ -98,7 +109,7 @@ pub fn keep(w: &mut [u64; WORDS], r: Record)
 // ---- for a call that changes little, the numbers that it may have changed, and no others
 pub fn keep_heard(w: &mut [u64; WORDS], r: Record)
     ensures { λ _. ⌜ now (w .exit) ≡ heardIn (r .job .quiet) (r .ring) (now (w .entry)) ⌝ }
-    ensures { λ _. ⌜ r .job .quiet < words ⌝ }
+    ensures { λ _. ⌜ r .job .quiet < wide16 ⌝ }
 {
     let g = r.ring;
     w[at_job::QUIET] = fields::of_word(r.job.quiet);

@@ -1,7 +1,7 @@
 -- From a call by value to the numbers.
 use Prim.Native.Nat.{ℕ, _<_}
 use mathlib.Core.Path.{_≡_, refl, sym, ap, _∙_, subst}
-use mathlib.Core.Bool.{Bool, true, false, cond, _&&_, true≢false, false≢true}
+use mathlib.Core.Bool.{Bool, true, false, cond, false≢true}
 use mathlib.Core.List.{List}
 use lib.Dec.{eqb}
 use lib.ListN.{length}
@@ -12,35 +12,15 @@ use Rattle.rules.specs.Calls.{Call, State, Outcome}
 use Rattle.rules.specs.Machine.{step}
 use Rattle.rules.specs.Promises.{leftBy}
 use Rattle.rules.proofs.Answers.{nonzero, refused-keeps}
-use Rattle.rules.proofs.Choice.{and-l, and-r}
 use Rattle.answers.specs.declared.Answer.{Answer}
 use Rattle.answers.specs.declared.After.{After}
 use Rattle.answers.specs.Told.{reasonOf, numberTold, valuesTold, stateOf, gave}
-use Rattle.stored.specs.Stored.{numberAt, words, feederKept, feederFits, heardIn, fedIn, wordCount, kept, allFit, recorded, isBox}
+use Rattle.stored.specs.Stored.{numberAt, wide16, feederKept, feederFits, heardIn, fedIn, wordCount, kept, allFit, recorded, isBox}
+use Rattle.stored.proofs.Boxes.{box-fits, box-sound}
 use Rattle.stored.proofs.Back.{kept-recorded, heard-kept, heard-fits, fed-kept, fed-fits}
-use Rattle.working.specs.Worked.{isRefused, isLast, settledIn, Does}
+use Rattle.working.specs.Worked.{Does}
+use Rattle.working.specs.Kept.{isRefused, isLast, settledIn}
 use Rattle.working.proofs.Little.{Fed, Heard, lastTold}
-
-pub box-fits : (ws : List ℕ) (n : ℕ) → isBox ws n ≡ true → allFit ws ≡ true
-unfolding isBox
-box-fits ws n b = and-l (allFit ws) (sound (recorded ws) n) b
-
-pub box-sound : (ws : List ℕ) (n : ℕ) → isBox ws n ≡ true → sound (recorded ws) n ≡ true
-unfolding isBox
-box-sound ws n b = and-r (allFit ws) (sound (recorded ws) n) b
-
-pub boxed : (ws : List ℕ) (n : ℕ) → allFit ws ≡ true → sound (recorded ws) n ≡ true → isBox ws n ≡ true
-unfolding isBox
-boxed ws n f s = ap (λ (b : Bool). b && sound (recorded ws) n) f ∙ s
-
--- whether numbers are a box
-pub unfit : (ws : List ℕ) (n : ℕ) → allFit ws ≡ false → false ≡ isBox ws n
-unfolding isBox
-unfit ws n e = sym (ap (λ (b : Bool). b && sound (recorded ws) n) e)
-
-pub as-sound : (ws : List ℕ) (n : ℕ) {r : Record} {b : Bool} → allFit ws ≡ true → r ≡ recorded ws → b ≡ sound r n → b ≡ isBox ws n
-unfolding isBox
-as-sound ws n f e s = s ∙ ap (λ (x : Record). sound x n) e ∙ sym (ap (λ (x : Bool). x && sound (recorded ws) n) f)
 
 refused-number : (a : Answer) → isRefused a ≡ true → eqb (numberTold a) 0 ≡ false
 refused-number Answer.Done e = absurd (false≢true e)
@@ -113,7 +93,7 @@ module _ (c : Call) (ws ring : List ℕ) (r : Record) (box : isBox ws (length ri
     -- quiet and the ring's two
     pub heard-does : {a : Answer} {ws' : List ℕ} → Heard r (step (stateOf r ring) c)
         → (a ≡ after .answer) ×
-        ((ws' ≡ heardIn (after .next .job .quiet) (after .next .ring) ws) × (after .next .job .quiet < words)) → Does c ws ring a ws' ring' reply'
+        ((ws' ≡ heardIn (after .next .job .quiet) (after .next .ring) ws) × (after .next .job .quiet < wide16)) → Does c ws ring a ws' ring' reply'
     heard-does {a} {ws'} only k =
         let q = after .next .job .quiet in
         let n : quietAt q (withRing (after .next .ring) r) ≡ after .next =

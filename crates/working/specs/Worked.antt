@@ -1,13 +1,12 @@
 -- What a request makes of a box's numbers.
 use Prim.Native.Nat.{ℕ}
 use mathlib.Core.Path.{_≡_}
-use mathlib.Core.Bool.{Bool, true, false, cond}
+use mathlib.Core.Bool.{true}
 use mathlib.Core.List.{List}
-use Rattle.rules.specs.Calls.{Call, Outcome, lent}
+use Rattle.rules.specs.Calls.{Call, lent}
 use Rattle.rules.specs.Machine.{step}
 use Rattle.answers.specs.declared.Request.{Request}
 use Rattle.answers.specs.declared.Answer.{Answer}
-use Rattle.answers.specs.declared.After.{After}
 use Rattle.answers.specs.Asked.{asked, replied}
 use Rattle.answers.specs.Told.{stateOf, gave}
 use Rattle.stored.specs.Stored.{kept, allFit, recorded}
@@ -22,33 +21,3 @@ pub record Does (c : Call) (ws ring : List ℕ) (a : Answer) (ws' ring' reply' :
 pub record Works (q : Request) (given ws ring reply : List ℕ) (a : Answer) (ws' ring' reply' : List ℕ) : Type 0 where
   pub does : Does (asked q given reply) ws ring a ws' ring' (lent (asked q given reply'))
   pub replies : reply' ≡ replied (asked q given reply) (step (stateOf (recorded ws) ring) (asked q given reply)) reply
-
--- ---- what is kept of an answer
--- a refusal keeps nothing but Load's, which is not settled so
-abbrev pub isRefused : Answer → Bool
-isRefused Answer.Done = false
-isRefused (Answer.Time seconds) = false
-isRefused (Answer.Destination id) = false
-isRefused (Answer.Picture k last) = false
-isRefused (Answer.State s why) = false
-isRefused (Answer.Sides number count long) = false
-isRefused (Answer.Feeding f tray why) = false
-isRefused (Answer.Mode m) = false
-isRefused (Answer.Stored k) = false
-isRefused (Answer.Refused why) = true
-
-abbrev pub settledIn : After → List ℕ → List ℕ
-settledIn a ws = cond (isRefused (a .answer)) ws (kept (a .next))
-
--- the last bytes of a side
-abbrev pub isLast : Answer → Bool
-isLast Answer.Done = false
-isLast (Answer.Time seconds) = false
-isLast (Answer.Destination id) = false
-isLast (Answer.Picture k last) = last
-isLast (Answer.State s why) = false
-isLast (Answer.Sides number count long) = false
-isLast (Answer.Feeding f tray why) = false
-isLast (Answer.Mode m) = false
-isLast (Answer.Stored k) = false
-isLast (Answer.Refused why) = false

@@ -10,21 +10,10 @@ ghost use mathlib.Core.List.{List, []};
 ghost use Prim.Native.Nat.{ℕ, _<_};
 ghost use lib.ListN.{length};
 ghost use Rattle.rules.specs.Record.{every};
-ghost use Rattle.rules.specs.Calls.{scan, Fetch, report, Tick, lent};
-ghost use Rattle.answers.specs.Asked.{asked};
-ghost use Rattle.stored.specs.Stored.{numberAt, words, feederKept, feederFits, heardIn, fedIn, allFit, isBox};
-ghost use Rattle.working.specs.Worked.{isRefused, isLast, settledIn, Does, Works};
-
-// The numbers are a record that is sound with a ring of so many bytes.
-pub fn is_box(w: &[u64; WORDS], length: usize) -> bool
-    ensures { λ b. ⌜ b ≡ isBox (now (w .entry)) length ⌝ }
-{
-    if !stored::fits(w) {
-        return false;
-    }
-    let r = stored::load(w);
-    sound::is_sound(r, length)
-}
+ghost use Rattle.rules.specs.Calls.{scan, Fetch, report, Tick};
+ghost use Rattle.stored.specs.Stored.{numberAt, wide16, feederKept, feederFits, heardIn, fedIn, allFit, isBox};
+ghost use Rattle.working.specs.Worked.{Does, Works};
+ghost use Rattle.working.specs.Kept.{isRefused, isLast, settledIn};
 
 // ---- what a call leaves is kept, no more of it than the call may have changed
 fn is_refused(a: Answer) -> bool
@@ -80,7 +69,7 @@ fn settle(w: &mut [u64; WORDS], after: After) -> Answer
 fn settle_heard(w: &mut [u64; WORDS], after: After) -> Answer
     ensures { λ a. ⌜ a ≡ after .answer ⌝ }
     ensures { λ _. ⌜ now (w .exit) ≡ heardIn (after .next .job .quiet) (after .next .ring) (now (w .entry)) ⌝ }
-    ensures { λ _. ⌜ after .next .job .quiet < words ⌝ }
+    ensures { λ _. ⌜ after .next .job .quiet < wide16 ⌝ }
 {
     let next = after.next;
     stored::keep_heard(w, next);

@@ -1,6 +1,6 @@
 -- What came, as the desk's function says, and its progress told.
 use mathlib.Core.Path.{ap}
-use Rattle.bench_box.specs.Host.{leftBy}
+use Rattle.bench_box.specs.Host.{toHost}
 use borrow.Author.Needs.{needs}
 use Rattle.bench_box.proofs.bench_box_perform.Statement.{statement}
 use Rattle.bench_box.proofs.bench_box_perform.Tie as tie
@@ -23,7 +23,7 @@ same-length-3 c = search needs
 returns : tie.Need-returns
 returns c =
     let e = c .before .before .before .before .before .before .before .before .perform .ensures in
-    (rw (c .tell .ensures) (ap leftBy (e .0)), e .1)
+    (rw (c .tell .ensures) (ap toHost (e .0)), e .1)
 
 pub bench-box-perform-spec : {M : Type 1} → statement M
 bench-box-perform-spec =

@@ -6,7 +6,7 @@ use lib.ListN.{length, drop}
 use Rattle.answers.specs.Told.{stateOf}
 use Rattle.stored.specs.Stored.{recorded}
 use Rattle.stored.proofs.Back.{kept-recorded}
-use Rattle.working.proofs.Doing.{box-fits}
+use Rattle.stored.proofs.Boxes.{box-fits}
 use Rattle.desk_stream.specs.Desk.{Heard}
 use Rattle.desk_stream.specs.Window.{repliedIn}
 use Rattle.desk_stream.proofs.Hearing.{heard-bad}

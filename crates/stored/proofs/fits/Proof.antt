@@ -1,5 +1,5 @@
 -- A part that fails settles it; where all but the last hold, that decides.
-use mathlib.Core.Path.{refl, sym, _∙_}
+use mathlib.Core.Path.{sym, _∙_}
 use borrow.Author.Tests.{eq-eqb, ne-eqb}
 use borrow.Author.Needs.{needs}
 use Rattle.rules.proofs.Guards.{went-on, stopped-at}

@@ -1,8 +1,6 @@
 -- A refusal keeps nothing, anything else is kept whole.
 use mathlib.Core.Path.{refl, sym, ap, _∙_}
 use mathlib.Core.Bool.{Bool, cond}
-use Prim.Native.Nat.{ℕ}
-use mathlib.Core.List.{List}
 use Rattle.stored.specs.Stored.{kept}
 use borrow.Author.Needs.{needs}
 use Rattle.working.proofs.settle.Statement.{statement}

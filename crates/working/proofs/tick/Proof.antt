@@ -1,6 +1,5 @@
 -- Nothing is kept in Idle, all where the job ends, else quiet and the ring's two, which a second leaves alone (`Little`).
 use mathlib.Core.Path.{refl, sym, ap, _∙_}
-use Rattle.rules.specs.declared.Record.{Record}
 use Rattle.rules.specs.Record.{idle}
 use Rattle.rules.specs.Calls.{Outcome, report, Tick}
 use Rattle.answers.specs.Told.{stateOf}

@@ -1,9 +1,9 @@
 -- Numbers that do not fit are no box; others are one where their record is sound.
 use Rattle.rules.proofs.Guards.{went-on, stopped-at}
-use Rattle.working.proofs.Doing.{unfit, as-sound}
+use Rattle.stored.proofs.Boxes.{unfit, as-sound}
 use borrow.Author.Needs.{needs}
-use Rattle.working.proofs.is_box.Statement.{statement}
-use Rattle.working.proofs.is_box.Tie as tie
+use Rattle.stored.proofs.is_box.Statement.{statement}
+use Rattle.stored.proofs.is_box.Tie as tie
 
 fits-requires : tie.Need-fits-requires
 fits-requires c κs = search needs
