@@ -37,7 +37,7 @@ fn put_tray(out: &mut [u8], at: usize, tray: u8, f: Failure) -> usize
 }
 
 // What an answer tells of the record that is left and of the reply.
-pub fn put_extra(out: &mut [u8], at: usize, r: Record, answer: Answer, reply: &[u8]) -> usize
+pub(crate) fn put_extra(out: &mut [u8], at: usize, r: Record, answer: Answer, reply: &[u8]) -> usize
     requires { ⌜ at + extraRoom ≤ length (now out) ⌝ }
     ensures { λ q. ⌜ Puts (now (out .entry)) at (extraOf (valuesTold r (now (reply .entry)) answer)) q (now (out .exit)) ⌝ }
     ensures { λ q. ⌜ q ≤ at + extraRoom ⌝ }

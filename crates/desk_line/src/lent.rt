@@ -34,7 +34,7 @@ fn put_name(out: &mut [u8], at: usize, r: Record) -> usize
     text::set_bytes(out, at, first(&bytes, len))
 }
 
-pub fn put_destination(out: &mut [u8], at: usize, r: Record, id: u32) -> usize
+pub(crate) fn put_destination(out: &mut [u8], at: usize, r: Record, id: u32) -> usize
     requires { ⌜ at + extraRoom ≤ length (now out) ⌝ }
     ensures { λ q. ⌜ Puts (now (out .entry)) at (name r ++ 58 ∷ decimal id) q (now (out .exit)) ⌝ }
     ensures { λ q. ⌜ q ≤ at + extraRoom ⌝ }
@@ -75,7 +75,7 @@ fn put_moved(out: &mut [u8], at: usize, k: u8, last: bool) -> usize
     put_last(out, mark, last)
 }
 
-pub fn put_picture(out: &mut [u8], at: usize, k: u8, last: bool, reply: &[u8]) -> usize
+pub(crate) fn put_picture(out: &mut [u8], at: usize, k: u8, last: bool, reply: &[u8]) -> usize
     requires { ⌜ at + extraRoom ≤ length (now out) ⌝ }
     ensures { λ q. ⌜ Puts (now (out .entry)) at
         (decimal k ++ lastText last ++ 58 ∷ hexes (take k (drop headed (now (reply .entry))))) q (now (out .exit)) ⌝ }
