@@ -33,7 +33,7 @@ pub struct Came {
     pub ended: bool,
 }
 
-pub fn put_bad(out: &mut [u8], at: usize, offset: u64) -> usize
+fn put_bad(out: &mut [u8], at: usize, offset: u64) -> usize
     ensures { λ r. ⌜ Puts (now (out .entry)) at (badLine offset) r (now (out .exit)) ⌝ }
 {
     let a = desk_text::put_bytes(out, at, b"bad ");

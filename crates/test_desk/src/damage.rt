@@ -67,7 +67,9 @@ fn walk(s: &[u8]) -> Reach {
 // line that the walk tells: a bad line is the only one with a `b`.
 fn is_told(said: &[u8], right: &[u8], same: usize, w: Reach, is_bad: bool) -> bool {
     let mut line = [0u8; 32];
-    let end = desk_stream::put_bad(&mut line, 0, w.at as u64);
+    let offset = desk_text::put_bytes(&mut line, 0, b"bad ");
+    let behind_it = desk_text::put_decimal(&mut line, offset, w.at as u64);
+    let end = desk_text::put_byte(&mut line, behind_it, b'\n');
     let first = behind(right, 0, same, b'\n');
     let all = behind(said, 0, w.records, b'\n');
     let is_same = check::same(part(said, 0, first), part(right, 0, first));
