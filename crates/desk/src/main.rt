@@ -1,9 +1,14 @@
-// The desk program: records from standard input, a line each on standard output. The work is `desk_stream::serve`; what stands here
-// reads, calls and writes.
+// The desk program: records from standard input, a line each on standard output. What stands here reads, takes a turn and writes; all
+// else is `desk_loop`.
 ghost use mathlib.Core.Path.{_≡_};
+ghost use mathlib.Core.Bool.{false};
 ghost use Prim.Native.Nat.{_+_, _≤_};
-ghost use lib.ListN.{length};
-use desk_stream::Came;
+ghost use lib.ListN.{length, take, drop, replicate};
+ghost use Rattle.rules.specs.Record.{fresh};
+ghost use Rattle.stored.specs.Stored.{kept};
+ghost use Rattle.desk_stream.specs.Desk.{ringRoom};
+ghost use Rattle.desk_loop.specs.Program.{Brings, Stepped};
+use desk_loop::Flow;
 use libc::EPIPE;
 use libc::STDIN_FILENO;
 use libc::STDOUT_FILENO;
@@ -13,63 +18,75 @@ use stored::WORDS;
 // The ring's length.
 const RING: usize = 4096;
 
-// Where the program stands: `held` bytes at the front of the window, of which those before `at` are answered, and the offset in the
-// input of the byte at `at`; whether the input has ended, whether the window wants more of it, whether all is said.
-struct Flow {
-    at: usize,
-    held: usize,
-    base: u64,
-    last: bool,
-    dry: bool,
-    over: bool,
-}
-
-// How many bytes a buffer holds after a read, and whether the read failed.
+// How many bytes a read brought, and whether it failed.
 struct Got {
-    held: usize,
+    count: usize,
     failed: bool,
 }
 
-// Reads what has come, behind the first `kept` bytes.
-fn read_behind(buf: &mut [u8], kept: usize) -> Got
-    requires { ⌜ kept ≤ length (now buf) ⌝ }
-    ensures { λ r. ⌜ r .held ≤ length (now (buf .exit)) ⌝ }
+// Reads what has come, behind the first `held` bytes.
+fn read_behind(buf: &mut [u8], held: usize) -> Got
+    requires { ⌜ held ≤ length (now buf) ⌝ }
+    ensures { λ r. ⌜ held + r .count ≤ length (now (buf .exit)) ⌝ }
+    ensures { λ r. ⌜ Brings (now (buf .entry)) held (take (r .count) (drop held (now (buf .exit)))) (now (buf .exit)) ⌝ }
 {
-    let room = buf.len() - kept;
-    let got = libc::read(STDIN_FILENO, &mut buf[kept..]);
+    let got = libc::read(STDIN_FILENO, &mut buf[held..]);
     if got < 0 {
         os::fail(b"desk: standard input");
         return Got {
-            held: kept,
-            failed: true,
-        };
-    }
-    let more = io::count(got, buf);
-    if room < more {
-        return Got {
-            held: kept,
+            count: 0,
             failed: true,
         };
     }
     Got {
-        held: kept + more,
+        count: io::count(got, &buf[held..]),
         failed: false,
     }
 }
 
-fn refill(buf: &mut [u8], f: Flow) -> Flow
-    ensures { λ r. ⌜ r .at ≤ r .held ⌝ }
-    ensures { λ r. ⌜ r .held ≤ length (now (buf .exit)) ⌝ }
+// Where the desk stands behind a turn, or that its read failed.
+struct Moved {
+    flow: Flow,
+    failed: bool,
+}
+
+// A turn, and before one that wants more input a read.
+fn advance(w: &mut [u64; WORDS], ring: &mut [u8], buf: &mut [u8], out: &mut [u8], f: Flow) -> Moved
+    requires { ⌜ f .held ≤ length (now buf) ⌝ }
+    ensures { λ m. ⌜ (m .failed ≡ false → Stepped
+      (record {
+        flow = f;
+        words = now (w .entry);
+        ring = now (ring .entry);
+        window = now (buf .entry);
+        lines = now (out .entry);
+      })
+      (record {
+        flow = m .flow;
+        words = now (w .exit);
+        ring = now (ring .exit);
+        window = now (buf .exit);
+        lines = now (out .exit);
+      })) ⌝ }
+    ensures { λ m. ⌜ m .flow .held ≤ length (now (buf .exit)) ⌝ }
+    ensures { λ m. ⌜ (m .failed ≡ false → m .flow .written ≤ length (now (out .exit))) ⌝ }
 {
-    let kept = desk_stream::keep(buf, f.at, f.held);
-    let got = read_behind(buf, kept);
-    Flow {
-        at: 0,
-        held: got.held,
-        base: f.base,
-        last: got.held == kept,
-        dry: false,
-        over: got.failed,
+    if !f.wants {
+        return Moved {
+            flow: desk_loop::turn(w, ring, buf, out, f, 0),
+            failed: false,
+        };
+    }
+    let got = read_behind(buf, f.held);
+    if got.failed {
+        return Moved {
+            flow: f,
+            failed: true,
+        };
+    }
+    Moved {
+        flow: desk_loop::turn(w, ring, buf, out, f, got.count),
+        failed: false,
     }
 }
 
@@ -86,60 +103,22 @@ fn say(out: &[u8], filled: usize) -> bool
     false
 }
 
-// A window that is refused ends the program too; with the box that `main` makes there is none.
-fn moved(f: Flow, came: Came, is_written: bool, is_dry: bool) -> Flow
-    requires { ⌜ f .at + came .read ≤ f .held ⌝ }
-    ensures { λ r. ⌜ r .at ≤ r .held ⌝ }
-    ensures { λ r. ⌜ r .held ≡ f .held ⌝ }
+// Step by step until all is said, from a fresh box with the desk's ring.
+fn pump(w: &mut [u64; WORDS], ring: &mut [u8], buf: &mut [u8], out: &mut [u8])
+    requires { ⌜ now w ≡ kept fresh ⌝ }
+    requires { ⌜ now ring ≡ replicate ringRoom 0 ⌝ }
 {
-    Flow {
-        at: f.at + came.read,
-        held: f.held,
-        base: std::num::wrapping_add_u64(f.base, came.read as u64),
-        last: f.last,
-        dry: is_dry,
-        over: came.ended | (came.number > 0) | !is_written | f.last & is_dry,
-    }
-}
-
-// Answers what the window holds, as far as the lines have room, and writes them out.
-fn answer(w: &mut [u64; WORDS], window: &[u8], ring: &mut [u8], out: &mut [u8], f: Flow) -> Flow
-    requires { ⌜ f .at + length (now window) ≤ f .held ⌝ }
-    ensures { λ r. ⌜ r .at ≤ r .held ⌝ }
-    ensures { λ r. ⌜ r .held ≡ f .held ⌝ }
-{
-    let came = desk_stream::serve(w, ring, window, f.base, f.last, out);
-    let is_written = say(out, came.written);
-    let is_dry = desk_line::has_room(came.written, out.len());
-    moved(f, came, is_written, is_dry)
-}
-
-fn turn(w: &mut [u64; WORDS], buf: &mut [u8], ring: &mut [u8], out: &mut [u8], f: Flow) -> Flow
-    requires { ⌜ f .at ≤ f .held ⌝ }
-    requires { ⌜ f .held ≤ length (now buf) ⌝ }
-    ensures { λ r. ⌜ r .at ≤ r .held ⌝ }
-    ensures { λ r. ⌜ r .held ≤ length (now (buf .exit)) ⌝ }
-{
-    if f.dry {
-        return refill(buf, f);
-    }
-    let at = f.at;
-    let held = f.held;
-    answer(w, &buf[at..held], ring, out, f)
-}
-
-fn pump(w: &mut [u64; WORDS], buf: &mut [u8], ring: &mut [u8], out: &mut [u8]) {
-    let mut f = Flow {
-        at: 0,
-        held: 0,
-        base: 0,
-        last: false,
-        dry: true,
-        over: false,
-    };
+    let mut f = desk_loop::begin();
     let mut turns = u64::MAX;
     while turns > 0 && !f.over {
-        f = turn(w, buf, ring, out, f);
+        let moved = advance(w, ring, buf, out, f);
+        if moved.failed {
+            return;
+        }
+        f = moved.flow;
+        if !say(out, f.written) {
+            return;
+        }
         turns -= 1;
     }
 }
@@ -150,5 +129,5 @@ fn main() {
     let mut ring = [0u8; RING];
     let mut words = [0u64; WORDS];
     stored::keep(&mut words, Record::fresh());
-    pump(&mut words, &mut buf, &mut ring, &mut out);
+    pump(&mut words, &mut ring, &mut buf, &mut out);
 }

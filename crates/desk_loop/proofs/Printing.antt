@@ -6,8 +6,8 @@ use mathlib.Core.List.{List, [], _∷_, _++_, append-assoc, append-nil}
 use native.Mathlib.Nat.{zero-add, add-zero, mod-add-mod}
 use native.Mathlib.Omega.{arith}
 use lib.Dec.{leb, ltb, eqb}
-use lib.ListN.{length, take, drop, replicate, length-take, length-drop, length-append, length-replicate}
-use lib.Seq.{take-all, take-append-seam, drop-append-le, drop-drop, length-take-le}
+use lib.ListN.{length, take, drop, replicate, length-take, length-drop, length-append, length-replicate, take-append-drop}
+use lib.Seq.{take-append-seam, take-append-add, drop-append-le, drop-drop}
 use borrow.Author.Tests.{eqb-true, le-leb}
 use Rattle.rules.specs.Record.{fresh}
 use Rattle.rules.specs.Calls.{State}
@@ -27,7 +27,7 @@ use Rattle.desk_stream.proofs.Progress.{longest, little-left}
 use Rattle.desk_stream.proofs.Windows.{desk-prints}
 use Rattle.desk_loop.specs.declared.Flow.{Flow}
 use Rattle.desk_loop.specs.Loop.{unread, filled, settled, settledWindow, Desk, passing, behind, turnedBy, turned}
-use Rattle.desk_loop.specs.Program.{opened, brought, said, Kept, Goes, over, on, reads}
+use Rattle.desk_loop.specs.Program.{opened, Brings, withWindow, on, reads, said, Goes, over, step}
 use Rattle.desk_loop.proofs.Turning.{Within, length-unread}
 
 -- ---- parts of a window
@@ -48,30 +48,20 @@ module _ (window : List ℕ) (at held : ℕ) (front : at ≤ held) (back : held 
       ∙ ap (λ (i : ℕ). drop n (take i (drop at window))) less
 
   -- with the bytes that a read brings
-  unread-brought : (bytes : List ℕ) → unread (overlaid window held bytes) at (held + length bytes) ≡ u ++ bytes
-  unread-brought bytes =
-      let rest : List ℕ = drop (held + length bytes) window in
+  unread-brought : (bytes window' : List ℕ) → Brings window held bytes window' → unread window' at (held + length bytes) ≡ u ++ bytes
+  unread-brought bytes window' b =
       let n : ℕ = held - at in
       let all : at + n ≡ held = omega arith in
       let kept : drop at (take held window) ≡ u = ap (λ (i : ℕ). drop at (take i window)) (sym all) ∙ drop-of-take at n window (omega arith) in
-      let size : held + length bytes - at ≡ length (u ++ bytes) = omega (arith, long, length-append u bytes) in
-      ap (take (held + length bytes - at))
-      (ap (drop at) (append-assoc (take held window) bytes rest)
-      ∙ drop-append-le at (take held window) (bytes ++ rest) (omega (arith, length-take held window))
-      ∙ ap (λ (x : List ℕ). x ++ (bytes ++ rest)) kept
-      ∙ sym (append-assoc u bytes rest))
-      ∙ ap (λ (i : ℕ). take i ((u ++ bytes) ++ rest)) size
-      ∙ take-append-seam (u ++ bytes) rest
-
-brought-long : (window : List ℕ) (held : ℕ) (bytes : List ℕ) → held + length bytes ≤ length window → length (overlaid window held bytes) ≡ length window
-brought-long window held bytes h =
-    omega (
-      arith,
-      length-append (take held window ++ bytes) (drop (held + length bytes) window),
-      length-append (take held window) bytes,
-      length-take held window,
-      length-drop (held + length bytes) window,
-    )
+      let size : held + length bytes - at ≡ length u + length bytes = omega (arith, long) in
+      ap (λ (x : List ℕ). take (held + length bytes - at) (drop at x))
+      (sym (take-append-drop held window') ∙ ap (λ (x : List ℕ). x ++ drop held window') (b .before))
+      ∙ ap (take (held + length bytes - at))
+      (drop-append-le at (take held window) (drop held window') (omega (arith, length-take held window))
+      ∙ ap (λ (x : List ℕ). x ++ drop held window') kept)
+      ∙ ap (λ (i : ℕ). take i (u ++ drop held window')) size
+      ∙ take-append-add u (drop held window') (length bytes)
+      ∙ ap (λ (x : List ℕ). u ++ x) (b .behind)
 
 -- at the front of the window
 unread-front : (window k : List ℕ) → unread (overlaid window 0 k) 0 (length k) ≡ k
@@ -206,8 +196,7 @@ pub record Ready (d : Desk) (at : ℕ) (input : List ℕ) : Type 0 where
 -- where all is said, nothing more is
 silent : {d : Desk} {input text : List ℕ} → Goes d input text → d .flow .over ≡ true → text ≡ []
 silent (over e) h = refl
-silent (on e f k g) h = absurd (true≢false (sym h ∙ e))
-silent (reads bytes e f l n k g) h = absurd (true≢false (sym h ∙ e))
+silent (step e s n k g) h = absurd (true≢false (sym h ∙ e))
 
 module _ {box : State} {base : ℕ} {last : Bool} {room : ℕ} {w : List ℕ} {e : Desk} (t : Turned box base last room w e) (at : ℕ)
     (count : base ≡ at % 2 ^ 64) {v text : List ℕ} (done : last ≡ true → v ≡ []) (g : Goes e v text) where
@@ -305,25 +294,24 @@ none-left (b ∷ bytes) input e = let z : _≡_ {A = ℕ} 0 1 = absurd (omega (a
 pub goes-prints : {d : Desk} {input text : List ℕ} → Goes d input text → (at : ℕ) → Ready d at input → d .flow .over ≡ false
     → Prints (boxIn (d .words) (d .ring)) at (unread (d .window) (d .flow .at) (d .flow .held) ++ input) text
 goes-prints (over e) at s h = absurd (true≢false (sym e ∙ h))
-goes-prints {d} {input} (on {text = text} e w k g) at s h =
+goes-prints {d} (step {input = input} {text = text} e (on w) n k g) at s h =
     let fits : d .flow .held + 0 ≤ length (d .window) = omega (arith, s .within .back) in
     let t = filled-turn d 0 (s .within .front) fits (s .box) (s .room) in
     let no-more : full d 0 .last ≡ true → input ≡ [] = λ x. s .done (last-same (d .flow .last) (d .flow .wants) w x) in
     let again = ready-again t at (s .count) no-more g (k ∙ s .box) (s .room) in
-    subst (λ (n : ℕ). Prints (boxIn (d .words) (d .ring)) at (unread (d .window) (d .flow .at) n ++ input) (said (turned 0 d) ++ text))
+    subst (λ (i : ℕ). Prints (boxIn (d .words) (d .ring)) at (unread (d .window) (d .flow .at) i ++ input) (said (turned 0 d) ++ text))
     (add-zero (d .flow .held))
     (turn-prints t at (s .count) no-more g (λ x. goes-prints g _ again x))
-goes-prints {d} (reads {input = input} {text = text} bytes e w l n k g) at s h =
-    let d' : Desk = brought bytes d in
-    let size : length (d' .window) ≡ length (d .window) = brought-long (d .window) (d .flow .held) bytes l in
-    let t = filled-turn d' (length bytes) (s .within .front) (omega (arith, size)) (s .box) (s .room) in
+goes-prints {d} (step {input = input} {text = text} e (reads bytes window w b) n k g) at s h =
+    let d' : Desk = withWindow window d in
+    let t = filled-turn d' (length bytes) (s .within .front) (omega (arith, b .fits, b .size)) (s .box) (s .room) in
     let no-more : full d' (length bytes) .last ≡ true → input ≡ [] =
     last-done (d .flow .last) (d .flow .wants) (eqb (length bytes) 0) input w (λ x. none-left bytes input (s .done x))
-    (λ x. n (eqb-true (length bytes) 0 x)) in
+    (λ x. n w (eqb-true (length bytes) 0 x)) in
     let again = ready-again t at (s .count) no-more g (k ∙ s .box) (s .room) in
     subst (λ (x : List ℕ). Prints (boxIn (d .words) (d .ring)) at x (said (turned (length bytes) d') ++ text))
     (ap (λ (x : List ℕ). x ++ input)
-    (unread-brought (d .window) (d .flow .at) (d .flow .held) (s .within .front) (s .within .back) bytes)
+    (unread-brought (d .window) (d .flow .at) (d .flow .held) (s .within .front) (s .within .back) bytes window b)
     ∙ append-assoc (unread (d .window) (d .flow .at) (d .flow .held)) bytes input)
     (turn-prints t at (s .count) no-more g (λ x. goes-prints g _ again x))
 
