@@ -9,7 +9,7 @@ use borrow.Rule.Slice.PartMut.{putMid, take-put}
 use lib.ListN.{length, take, drop, length-take, length-drop, replicate}
 use lib.Seq.{length-take-le}
 use Rattle.rules.specs.Record.{fresh}
-use Rattle.stored.specs.Stored.{kept}
+use Rattle.stored.specs.Stored.{kept, isBox}
 use Rattle.desk_stream.specs.Desk.{ringRoom}
 use Rattle.desk_loop.specs.declared.Flow.{Flow}
 use Rattle.desk_loop.specs.Loop.{Desk, atFirst, turned}
@@ -36,9 +36,9 @@ module _ (window part : List ℕ) (held : ℕ) (h : held ≤ length window) (l :
   counted count c = omega (arith, l, length-take (length window' - held) (drop held window'), length-drop held window')
 
 -- ---- a step
-module _ (d : Desk) {e : Desk} where
+module _ (d : Desk) {e : Desk} (still : isBox (e .words) (length (e .ring)) ≡ isBox (d .words) (length (d .ring))) where
   pub stepped-on : not (d .flow .wants) ≡ true → e ≡ turned 0 d → Stepped d e
-  stepped-on w f = record { bytes = []; steps = subst (Steps d []) (sym f) (on (not-true (d .flow .wants) w)) }
+  stepped-on w f = record { bytes = []; steps = subst (Steps d []) (sym f) (on (not-true (d .flow .wants) w)); still = still }
 
   pub stepped-read : (window : List ℕ) (count : ℕ) → not (d .flow .wants) ≡ false → d .flow .held + count ≤ length window
       → Brings (d .window) (d .flow .held) (take count (drop (d .flow .held) window)) window → e ≡ turned count (withWindow window d) → Stepped d e
@@ -51,6 +51,7 @@ module _ (d : Desk) {e : Desk} where
         steps =
             subst (Steps d bytes) (ap (λ (n : ℕ). turned n (withWindow window d)) size ∙ sym f)
             (reads bytes window (not-false (d .flow .wants) w) b);
+        still = still;
       }
 
 -- at the outset

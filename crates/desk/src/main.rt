@@ -54,20 +54,20 @@ struct Moved {
 fn advance(w: &mut [u64; WORDS], ring: &mut [u8], buf: &mut [u8], out: &mut [u8], f: Flow) -> Moved
     requires { ⌜ f .held ≤ length (now buf) ⌝ }
     ensures { λ m. ⌜ (m .failed ≡ false → Stepped
-      (record {
-        flow = f;
-        words = now (w .entry);
-        ring = now (ring .entry);
-        window = now (buf .entry);
-        lines = now (out .entry);
-      })
-      (record {
-        flow = m .flow;
-        words = now (w .exit);
-        ring = now (ring .exit);
-        window = now (buf .exit);
-        lines = now (out .exit);
-      })) ⌝ }
+        (record {
+          flow = f;
+          words = now (w .entry);
+          ring = now (ring .entry);
+          window = now (buf .entry);
+          lines = now (out .entry);
+        })
+        (record {
+          flow = m .flow;
+          words = now (w .exit);
+          ring = now (ring .exit);
+          window = now (buf .exit);
+          lines = now (out .exit);
+        })) ⌝ }
     ensures { λ m. ⌜ m .flow .held ≤ length (now (buf .exit)) ⌝ }
     ensures { λ m. ⌜ (m .failed ≡ false → m .flow .written ≤ length (now (out .exit))) ⌝ }
 {

@@ -27,7 +27,7 @@ use Rattle.desk_stream.proofs.Progress.{longest, little-left}
 use Rattle.desk_stream.proofs.Windows.{desk-prints}
 use Rattle.desk_loop.specs.declared.Flow.{Flow}
 use Rattle.desk_loop.specs.Loop.{unread, filled, settled, settledWindow, Desk, passing, behind, turnedBy, turned}
-use Rattle.desk_loop.specs.Program.{opened, Brings, withWindow, on, reads, said, Goes, over, step}
+use Rattle.desk_loop.specs.Program.{opened, Brings, withWindow, Steps, on, reads, Stepped, Reaches, begins, goes-on, said, Goes, over, step}
 use Rattle.desk_loop.proofs.Turning.{Within, length-unread}
 
 -- ---- parts of a window
@@ -70,7 +70,7 @@ unread-front window k =
     ap (λ (n : ℕ). take n (overlaid window 0 k)) all ∙ take-append-seam k (drop (0 + length k) window)
 
 -- ---- what a turn comes to
-module _ (box : State) (base : ℕ) (last : Bool) (room : ℕ) (w : List ℕ) where
+module _ (space : ℕ) (box : State) (base : ℕ) (last : Bool) (room : ℕ) (w : List ℕ) where
   abbrev q : Progress
   q = served base last room 0 (outset box) w
 
@@ -86,6 +86,7 @@ module _ (box : State) (base : ℕ) (last : Bool) (room : ℕ) (w : List ℕ) wh
     front : e .flow .wants ≡ true → e .flow .held ≡ length (drop (q .place) w)
     within : Within (e .flow) (length (e .window))
     roomy : room ≤ length (e .lines)
+    size : length (e .window) ≡ space
 
 -- ---- a turn of a box, with room for a line
 module _ (f : Flow) (d : Desk) (box : isBox (d .words) (length (d .ring)) ≡ true) (room : lineRoom ≤ length (d .lines))
@@ -140,9 +141,14 @@ module _ (f : Flow) (d : Desk) (box : isBox (d .words) (length (d .ring)) ≡ tr
   box-left : boxIn (kept (p .box .box)) (p .box .bytes) ≡ p .box
   box-left = rw (recorded-kept (p .box .box)) refl
 
+  front-long : length (overlaid (d .window) 0 (unread (d .window) (f .at + p .place) (f .held))) ≡ length (d .window)
+  front-long =
+      let k = unread (d .window) (f .at + p .place) (f .held) in
+      omega (arith, left-held, within .back, length-append k (drop (0 + length k) (d .window)), length-drop (0 + length k) (d .window))
+
   -- where the window wants more, and where it does not
   settles : (b : Bool) → leb (length (p .text) + lineRoom) (length (d .lines)) ≡ b
-      → Turned (boxIn (d .words) (d .ring)) (f .base) (f .last) (length (d .lines)) w (behind f d c)
+      → Turned (length (d .window)) (boxIn (d .words) (d .ring)) (f .base) (f .last) (length (d .lines)) w (behind f d c)
   settles true e =
       let k = unread (d .window) (f .at + p .place) (f .held) in
       rw e
@@ -162,6 +168,7 @@ module _ (f : Flow) (d : Desk) (box : isBox (d .words) (length (d .ring)) ≡ tr
               back = omega (arith, left-held, length-append k (drop (0 + length k) (d .window)));
             };
         roomy = lines-long;
+        size = front-long;
       })
   settles false e =
       rw e
@@ -177,11 +184,12 @@ module _ (f : Flow) (d : Desk) (box : isBox (d .words) (length (d .ring)) ≡ tr
         front = λ x. absurd (false≢true x);
         within = record { front = on-place; back = within .back };
         roomy = lines-long;
+        size = refl;
       })
 
-  served-turn : Turned (boxIn (d .words) (d .ring)) (f .base) (f .last) (length (d .lines)) w (turnedBy f d)
+  served-turn : Turned (length (d .window)) (boxIn (d .words) (d .ring)) (f .base) (f .last) (length (d .lines)) w (turnedBy f d)
   served-turn =
-      subst (λ (x : Came). Turned (boxIn (d .words) (d .ring)) (f .base) (f .last) (length (d .lines)) w (behind f d x)) (sym is-window)
+      subst (λ (x : Came). Turned (length (d .window)) (boxIn (d .words) (d .ring)) (f .base) (f .last) (length (d .lines)) w (behind f d x)) (sym is-window)
       (settles (leb (length (p .text) + lineRoom) (length (d .lines))) refl)
 
 -- ---- from turn to turn
@@ -198,7 +206,7 @@ silent : {d : Desk} {input text : List ℕ} → Goes d input text → d .flow .o
 silent (over e) h = refl
 silent (step e s n k g) h = absurd (true≢false (sym h ∙ e))
 
-module _ {box : State} {base : ℕ} {last : Bool} {room : ℕ} {w : List ℕ} {e : Desk} (t : Turned box base last room w e) (at : ℕ)
+module _ {space : ℕ} {box : State} {base : ℕ} {last : Bool} {room : ℕ} {w : List ℕ} {e : Desk} (t : Turned space box base last room w e) (at : ℕ)
     (count : base ≡ at % 2 ^ 64) {v text : List ℕ} (done : last ≡ true → v ≡ []) (g : Goes e v text) where
   abbrev r : Progress
   r = served base last room 0 (outset box) w
@@ -266,10 +274,10 @@ module _ (d : Desk) (got : ℕ) where
     full-within = record { front = omega arith; back = omega arith }
 
     pub filled-turn : isBox (d .words) (length (d .ring)) ≡ true → lineRoom ≤ length (d .lines)
-        → Turned (boxIn (d .words) (d .ring)) (f .base) (full .last) (length (d .lines)) (unread (d .window) (f .at) (f .held + got)) (turned got d)
+        → Turned (length (d .window)) (boxIn (d .words) (d .ring)) (f .base) (full .last) (length (d .lines)) (unread (d .window) (f .at) (f .held + got)) (turned got d)
     unfolding turned
     filled-turn b l =
-        subst (λ (x : List ℕ). Turned (boxIn (d .words) (d .ring)) (f .base) (full .last) (length (d .lines)) x (turnedBy full d))
+        subst (λ (x : List ℕ). Turned (length (d .window)) (boxIn (d .words) (d .ring)) (f .base) (full .last) (length (d .lines)) x (turnedBy full d))
         (ap (λ (n : ℕ). unread (d .window) n (full .held)) full-at ∙ ap (unread (d .window) (f .at)) full-held)
         (served-turn full d b l full-within)
 
@@ -315,23 +323,67 @@ goes-prints {d} (step {input = input} {text = text} e (reads bytes window w b) n
     ∙ append-assoc (unread (d .window) (d .flow .at) (d .flow .held)) bytes input)
     (turn-prints t at (s .count) no-more g (λ x. goes-prints g _ again x))
 
+opened-box : (window lines : List ℕ) → isBox (opened window lines .words) (length (opened window lines .ring)) ≡ true
+opened-box window lines =
+    let ring : List ℕ = replicate ringRoom 0 in
+    let long : length ring ≡ ringRoom = length-replicate {A = ℕ} ringRoom 0 in
+    fresh-box ring (record { least = omega (arith, long); most = omega (arith, long) })
+
 -- from the outset, with room for a line: the program says the desk's text for its input, whatever its reads bring at a time
 pub program-prints : (window lines : List ℕ) → lineRoom ≤ length lines → {input text : List ℕ} → Goes (opened window lines) input text
     → text ≡ deskText input
 program-prints window lines l {input} {text} g =
-    let ring : List ℕ = replicate ringRoom 0 in
-    let long : length ring ≡ ringRoom = length-replicate {A = ℕ} ringRoom 0 in
     let at-first : Ready (opened window lines) 0 input =
-    record { box = fresh-box ring (record { least = omega (arith, long); most = omega (arith, long) }); room = l; within = record { front = omega arith; back = omega arith }; count = refl; done = λ x. absurd (false≢true x) } in
+    record { box = opened-box window lines; room = l; within = record { front = omega arith; back = omega arith }; count = refl; done = λ x. absurd (false≢true x) } in
     desk-prints
     (subst (λ (s : State). Prints s 0 input text) (rw (recorded-kept fresh) refl) (goes-prints g 0 at-first refl))
 
 -- ---- a read is only asked for where there is room, so that one that brings nothing tells the input's end
-pub room-to-read : {box : State} {base room : ℕ} {last : Bool} {w : List ℕ} {e : Desk} → Turned box base last room w e → longest ≤ length (e .window)
+asks-with-room : {box : State} {space base room : ℕ} {last : Bool} {w : List ℕ} {e : Desk} → Turned space box base last room w e → longest ≤ length (e .window)
     → e .flow .over ≡ false → e .flow .wants ≡ true → e .flow .held < length (e .window)
-room-to-read {box} {base} {room} {last} {w} {e} t h o x =
+asks-with-room {box = box} {base = base} {room = room} {last = last} {w = w} t h o x =
     omega (arith, t .front x, little-left base last room box w (unended (served base last room 0 (outset box) w .ended) refl) (sym (t .wants) ∙ x))
   where
     unended : (b : Bool) → served base last room 0 (outset box) w .ended ≡ b → b ≡ false
     unended true f = absurd (true≢false (sym (t .ends f) ∙ o))
     unended false f = refl
+
+-- wherever the program has come to
+record Stands (e : Desk) : Type 0 where
+  box : isBox (e .words) (length (e .ring)) ≡ true
+  room : lineRoom ≤ length (e .lines)
+  within : Within (e .flow) (length (e .window))
+  large : longest ≤ length (e .window)
+  asks : e .flow .over ≡ false → e .flow .wants ≡ true → e .flow .held < length (e .window)
+
+module _ (d : Desk) (got : ℕ) (inside : d .flow .at ≤ d .flow .held) (fits : d .flow .held + got ≤ length (d .window)) where
+  turn-stands : isBox (d .words) (length (d .ring)) ≡ true → lineRoom ≤ length (d .lines) → longest ≤ length (d .window)
+      → isBox (turned got d .words) (length (turned got d .ring)) ≡ isBox (d .words) (length (d .ring)) → Stands (turned got d)
+  turn-stands b r l k =
+      let t = filled-turn d got inside fits b r in
+      let large : longest ≤ length (turned got d .window) = omega (arith, l, t .size) in
+      record { box = k ∙ b; room = omega (arith, r, t .roomy); within = t .within; large = large; asks = asks-with-room t large }
+
+step-stands : {d e : Desk} → Stands d → Stepped d e → Stands e
+step-stands {d} s p = go (p .steps) (p .still)
+  where
+    go : {bytes : List ℕ} {e : Desk} → Steps d bytes e → isBox (e .words) (length (e .ring)) ≡ isBox (d .words) (length (d .ring)) → Stands e
+    go (on w) k = turn-stands d 0 (s .within .front) (omega (arith, s .within .back)) (s .box) (s .room) (s .large) k
+    go (reads bytes window w b) k =
+        turn-stands (withWindow window d) (length bytes) (s .within .front) (omega (arith, b .fits, b .size)) (s .box) (s .room)
+        (omega (arith, s .large, b .size)) k
+
+module _ (window lines : List ℕ) (large : longest ≤ length window) (room : lineRoom ≤ length lines) where
+  stands : {e : Desk} → Reaches (opened window lines) e → Stands e
+  stands begins =
+      record {
+        box = opened-box window lines;
+        room = room;
+        within = record { front = omega arith; back = omega arith };
+        large = large;
+        asks = λ _ _. omega arith;
+      }
+  stands (goes-on r o p) = step-stands (stands r) p
+
+  pub room-to-read : {e : Desk} → Reaches (opened window lines) e → e .flow .over ≡ false → e .flow .wants ≡ true → e .flow .held < length (e .window)
+  room-to-read r o w = stands r .asks o w

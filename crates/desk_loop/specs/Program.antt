@@ -29,10 +29,11 @@ pub data Steps (d : Desk) : List ℕ → Desk → Type 0 where
   reads : (bytes window : List ℕ) → d .flow .wants ≡ true → Brings (d .window) (d .flow .held) bytes window
       → Steps d bytes (turned (length bytes) (withWindow window d))
 
--- some step
+-- some step, behind which the box is still a box
 pub record Stepped (d e : Desk) : Type 0 where
   pub bytes : List ℕ
   pub steps : Steps d bytes e
+  pub still : isBox (e .words) (length (e .ring)) ≡ isBox (d .words) (length (d .ring))
 
 -- steps one after the other, while not all is said
 pub data Reaches (d : Desk) : Desk → Type 0 where

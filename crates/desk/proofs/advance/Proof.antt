@@ -23,7 +23,7 @@ returns c =
     let turn = c .before .before .before .before .before .before in
     let test = turn .before .before .before .before .before in
     let r = turn .turn .ensures in
-    ((λ _. stepped-on _ (test .if1 .taken) (r .0)), (r .1 .0, (λ _. r .1 .1 .0)))
+    ((λ _. stepped-on _ (r .1 .1 .1) (test .if1 .taken) (r .0)), (r .1 .0, (λ _. r .1 .1 .0)))
 
 read-behind-requires : tie.Need-read-behind-requires
 read-behind-requires c κs = search needs
@@ -54,7 +54,7 @@ returns-3 c =
     let test = read .before .before in
     let r = turn .turn2 .ensures in
     let b = read .read-behind .ensures in
-    ((λ _. stepped-read _ _ _ (test .if1 .left) (b .0) (b .1) (r .0)), (r .1 .0, (λ _. r .1 .1 .0)))
+    ((λ _. stepped-read _ (r .1 .1 .1) _ _ (test .if1 .left) (b .0) (b .1) (r .0)), (r .1 .0, (λ _. r .1 .1 .0)))
 
 pub advance-spec : {M : Type 1} → statement M
 advance-spec =
