@@ -1,5 +1,5 @@
--- The desk's text held to the paper: the worked bytes, every kind in one story, how an input ends, the ring and the reply. A
--- definition that is wrong fails at the line of a case, also where the code is wrong with it.
+-- The desk's text held to the paper: the worked input, stories with every kind, how an input ends, the ring and the reply. A definition
+-- that is wrong fails at the line of a case, also where the code is wrong with it.
 use Prim.Native.Nat.{ℕ, zero, suc}
 use Prim.Native.String.{String}
 use mathlib.Core.Path.{_≡_, refl}
@@ -53,45 +53,61 @@ unfoldable pub linesDue : List Row → List ℕ
 linesDue [] = []
 linesDue (r ∷ rs) = text (r .line) ++ text "\n" ++ linesDue rs
 
-abbrev pub everyKind : List Row
-everyKind =
-    row "A55A 22 01 01" "22 0 I U 0 1 0 -"
+-- a ring of eight bytes does for these; where one fails, the check is short enough to show what differs
+abbrev pub fresh8 : State
+fresh8 = start (replicate 8 0)
+
+abbrev pub story : (says : String) (rows : List Row) → printing fresh8 (inputOf rows) ≡ linesDue rows → Case (List ℕ)
+story says rows e = that says (printing fresh8 (inputOf rows)) (linesDue rows) e
+
+pub stories : List (Case (List ℕ))
+unfolding printing inputOf linesDue
+stories =
+    story "the feeder's calls"
+    (row "A55A 22 01 01" "22 0 I U 0 1 0 -"
     ∷ row "A55A 14 00" "14 0 I U 0 1 0 1:none"
     ∷ row "A55A 10 04 00000000" "10 0 I L 0 1 0 -"
     ∷ row "A55A 13 05 00000000 00" "13 501 I L 0 1 0 -"
-    ∷ row "A55A 11 05 00000000 00" "11 0 I U 0 1 0 -"
-    ∷ row "A55A 13 05 00000000 00" "13 0 I U 0 1 0 -"
+    ∷ row "A55A 11 05 00000000 01" "11 0 I U 0 1 0 -"
     ∷ row "A55A 13 05 00000000 01" "13 601 I U 0 1 0 -"
+    ∷ row "A55A 13 05 00000000 00" "13 0 I U 0 1 0 -"
+    ∷ row "A55A 14 00" "14 0 I U 0 1 0 0:none"
     ∷ row "A55A 15 00" "15 0 I U 0 1 0 Simplex"
-    ∷ row "A55A 01 06 01 FFFF 01 0004" "01 0 S B 1 1 -1 5"
-    ∷ row "A55A 05 04 00000001" "05 0 S B 1 1 -1 J0000000001001.jpg:1"
-    ∷ row "A55A 20 02 4142" "20 0 S B 1 1 -1 2"
-    ∷ row "A55A 06 13 01 4A303030303030303030313030312E6A7067" "06 0 S B 1 1 -1 1:41"
-    ∷ row "A55A 21 00" "21 0 F U 1 1 -1 -"
-    ∷ row "A55A 03 04 00000001" "03 0 F U 1 1 -1 -"
-    ∷ row "A55A 06 13 FF 4A303030303030303030313030312E6A7067" "06 0 I U 0 1 0 1!:42"
-    ∷ row "A55A 23 01 01" "23 0 I E 0 1 0 -"
+    ∷ []) refl
+    ∷ story "a jam"
+    (row "A55A 23 01 01" "23 0 I E 0 1 0 -"
     ∷ row "A55A 12 04 00000000" "12 0 I E 0 1 0 -"
     ∷ row "A55A 23 01 00" "23 0 I E 0 1 0 -"
+    ∷ row "A55A 14 00" "14 0 I E 0 1 0 0:Jammed"
     ∷ row "A55A 12 04 00000000" "12 0 I U 0 1 0 -"
-    ∷ row "A55A 01 06 00 0000 00 0005" "01 0 P U 2 1 0 5"
-    ∷ row "A55A 02 07 00000002 00 0001" "02 0 S U 2 1 1 -"
-    ∷ row "A55A 08 00" "08 0 S U 2 1 1 -"
-    ∷ row "A55A 04 04 00000001" "04 712 S U 2 1 1 -"
-    ∷ row "A55A 04 04 00000002" "04 0 I U 0 1 0 -"
-    ∷ row "A55A 01 06 00 0000 00 0005" "01 0 P U 3 1 0 5"
-    ∷ row "A55A 24 00" "24 0 P U 3 1 0 -"
-    ∷ row "A55A 24 00" "24 0 P U 3 1 0 -"
-    ∷ row "A55A 24 00" "24 0 P U 3 1 0 -"
-    ∷ row "A55A 24 00" "24 0 P U 3 1 0 -"
+    ∷ []) refl
+    ∷ story "a job from the feeder, stopped"
+    (row "A55A 22 01 01" "22 0 I U 0 1 0 -"
+    ∷ row "A55A 01 06 01 FFFF 00 0004" "01 0 S B 1 1 -1 5"
+    ∷ row "A55A 05 04 00000001" "05 0 S B 1 1 -1 J0000000001.jpg:1"
+    ∷ row "A55A 20 02 4142" "20 0 S B 1 1 -1 2"
+    ∷ row "A55A 06 10 01 4A303030303030303030312E6A7067" "06 0 S B 1 1 -1 1:41"
+    ∷ row "A55A 21 00" "21 0 F U 1 1 -1 -"
+    ∷ row "A55A 03 04 00000001" "03 0 F U 1 1 -1 -"
+    ∷ row "A55A 06 10 FF 4A303030303030303030312E6A7067" "06 0 I U 0 1 0 1!:42"
+    ∷ []) refl
+    ∷ story "a job on the glass, aborted"
+    (row "A55A 01 06 00 0000 00 0005" "01 0 P U 1 1 0 5"
+    ∷ row "A55A 02 07 00000001 00 0001" "02 0 S U 1 1 1 -"
+    ∷ row "A55A 08 00" "08 0 S U 1 1 1 -"
+    ∷ row "A55A 04 04 00000002" "04 712 S U 1 1 1 -"
+    ∷ row "A55A 04 04 00000001" "04 0 I U 0 1 0 -"
+    ∷ []) refl
+    ∷ story "a job that ends by time"
+    (row "A55A 01 06 00 0000 00 0005" "01 0 P U 1 1 0 5"
+    ∷ row "A55A 24 00" "24 0 P U 1 1 0 -"
+    ∷ row "A55A 24 00" "24 0 P U 1 1 0 -"
+    ∷ row "A55A 24 00" "24 0 P U 1 1 0 -"
+    ∷ row "A55A 24 00" "24 0 P U 1 1 0 -"
     ∷ row "A55A 24 00" "24 0 I U 0 1 0 -"
     ∷ row "A55A 07 00" "07 0 I U 0 1 0 Timeout"
-    ∷ row "A55A 25 00" "bad 240"
+    ∷ []) refl
     ∷ []
-
-pub stories : List (Case (List ℕ))
-unfolding prints inputOf linesDue
-stories = that "every kind" (prints (inputOf everyKind)) (linesDue everyKind) refl ∷ []
 
 -- ---- a bad record prints `bad` and the offset of its first byte, and ends; empty input prints nothing
 pub endings : List (Case (List ℕ))
@@ -107,10 +123,11 @@ endings =
     ∷ that "cut in its payload" (prints (bytes "A55A2400 A55A2201")) (text "24 0 I U 0 1 0 -\nbad 4\n") refl
     ∷ that "at the first byte" (prints (bytes "A5")) (text "bad 0\n") refl
     ∷ that "what follows is not read" (prints (bytes "00 A55A2400")) (text "bad 0\n") refl
-    ∷ that "an offset of 64 bits" (badText 18446744073709551615) (text "bad 18446744073709551615\n") refl
+    ∷ that "the greatest offset of 64 bits" (badText 18446744073709551615) (text "bad 18446744073709551615\n") refl
+    ∷ that "one more is 0, by our reading" (badText 18446744073709551616) (text "bad 0\n") refl
     ∷ []
 
--- ---- a 4,096-byte ring. To fill it byte by byte takes too many steps of a check; so 4,095 bytes are stored in it from the start
+-- ---- a 4,096-byte ring. To put so many bytes in takes more steps than a check has, so 4,095 are stored in it from the start
 abbrev pub nearlyFull : State
 nearlyFull =
     boxed (box (scanner Scanning None) (job 1 1 60 0 0) (side 1 1 1) (settings 0 1) (feed Unloaded None 0 0) (ring 0 4095)) (replicate ringRoom 0)
@@ -123,9 +140,12 @@ rings =
     ∷ []
 
 pub desks : List (Case (List ℕ → List ℕ))
-desks = that "a fresh box with a 4,096-byte ring" deskText (λ input. printed (start (replicate 4096 0)) (readFrom 0 0 input)) refl ∷ []
+desks = that "a fresh box with a ring of 4,096 bytes" deskText (λ input. printed (start (replicate 4096 0)) (readFrom 0 0 input)) refl ∷ []
 
--- ---- a 259-byte reply: a fetch of 255 gives 255
+-- ---- a 259-byte reply
+pub lents : List (Case Call)
+lents = that "a reply of 259 bytes" (deskCall (Fetch 8) J1-001) (scan (fetching J1-001 8 (replicate 259 0))) refl ∷ []
+
 -- a text so many times
 unfoldable pub times : ℕ → List ℕ → List ℕ
 times zero s = []
@@ -134,10 +154,7 @@ times (suc n) s = s ++ times n s
 pub replies : List (Case (List ℕ))
 unfolding prints times
 replies =
-    that "a fetch of 255"
+    that "a fetch of 255 gives 255"
     (prints (bytes "A55A 01 06 00 0001 01 000A A55A 20 FF" ++ replicate 255 0x41 ++ bytes "A55A 06 13 FF 4A303030303030303030313030312E6A7067"))
     (text "01 0 S U 1 1 1 10\n20 0 S U 1 1 1 255\n06 0 S U 1 1 1 255:" ++ times 255 (text "41") ++ text "\n") refl
     ∷ []
-
-pub lents : List (Case Call)
-lents = that "a 259-byte reply" (deskCall (Fetch 8) J1-001) (scan (fetching J1-001 8 (replicate 259 0))) refl ∷ []

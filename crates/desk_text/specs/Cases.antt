@@ -5,7 +5,7 @@ use mathlib.Core.Path.{_≡_, refl}
 use mathlib.Core.List.{List, [], _∷_}
 use Rattle.rules.specs.Cases.{Case, that}
 use Rattle.desk_text.specs.Digits.{lastDigits, decimal, hexByte, hexes}
-use Rattle.desk_text.specs.Put.{fitting, overlaid}
+use Rattle.desk_text.specs.Put.{fitting, overlaid, Puts}
 use Rattle.desk_text.specs.Literal.{text, bytes}
 
 -- ---- texts and bytes as the paper prints them
@@ -54,3 +54,11 @@ fitted =
     ∷ that "past it" (fitting (text "......") 7 (text "abc")) (text "") refl
     ∷ that "every other byte is as it was" (overlaid (text "uvwxyz") 2 (text "ab")) (text "uvabyz") refl
     ∷ []
+
+pub put-whole : Puts (text "uvwxyz") 2 (text "ab") 4 (text "uvabyz")
+unfolding text
+put-whole = record { behind = refl; stands = refl }
+
+pub put-cut : Puts (text "uvwxyz") 5 (text "ab") 6 (text "uvwxya")
+unfolding text
+put-cut = record { behind = refl; stands = refl }
