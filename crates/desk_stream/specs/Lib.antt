@@ -3,3 +3,4 @@ pub mod Window
 pub mod Held
 pub mod Boxed
 pub mod Runs
+pub mod Cases
