@@ -7,7 +7,8 @@ use native.Mathlib.Omega.{arith}
 use lib.Dec.{eqb}
 use Rattle.rules.specs.declared.Record.{Record}
 use Rattle.rules.specs.Record.{fresh}
-use Rattle.rules.specs.Calls.{Values, nothing, time, destination, picture, state, sides, feeding, mode, stored, Outcome}
+use Rattle.rules.specs.Calls.{Call, State, Values, nothing, time, destination, picture, state, sides, feeding, mode, stored, Outcome}
+use Rattle.rules.specs.Machine.{step}
 use Rattle.answers.specs.declared.Why.{Why}
 use Rattle.answers.specs.declared.Answer.{Answer}
 use Rattle.answers.specs.declared.After.{After}
@@ -83,3 +84,8 @@ gave-settled {a} {b} {ring} {ring′} {reply} {reply′} e =
     let answer : a .answer ≡ b .answer = sym (read-back (a .next) reply (a .answer)) ∙ told ∙ read-back (b .next) reply′ (b .answer) in
     let next : a .next ≡ b .next = ap (λ (o : Outcome). o .state .box) e in
     (same-after next answer, ap (λ (o : Outcome). o .state .bytes) e, ap (λ (o : Outcome). o .reply) e)
+
+-- so of a call from a state
+pub call-settled : (s : State) (c : Call) {a b : After} {ring ring′ reply reply′ : List ℕ} (one : gave a ring reply ≡ step s c)
+    (other : gave b ring′ reply′ ≡ step s c) → (a ≡ b) × (ring ≡ ring′) × (reply ≡ reply′)
+call-settled s c one other = gave-settled (one ∙ sym other)

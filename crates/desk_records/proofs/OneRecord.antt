@@ -7,17 +7,17 @@ use native.Mathlib.Omega.{arith}
 use lib.ListN.{length, getD, take, drop, length-drop}
 use lib.Seq.{take-add, length-take-le}
 use Rattle.rules.specs.Promises.{All}
+use Rattle.desk_text.specs.Put.{overlaid}
 use Rattle.desk_kinds.specs.Numbers.{bigEndian}
 use Rattle.desk_kinds.specs.Kinds.{limitsOf, within}
 use Rattle.desk_kinds.proofs.Entries.{listed-short}
 use Rattle.desk_records.specs.declared.Reading.{Reading}
-use Rattle.desk_records.specs.declared.Written.{Written}
 use Rattle.desk_records.specs.Reading.{firstMark, secondMark, lengthAt, lengthWidth, headOf, lengthIn, readWith, readAt, partOf}
-use Rattle.desk_records.specs.Writing.{inBytes, recordWith, recordOf, writing}
+use Rattle.desk_records.specs.Writing.{inBytes, recordWith, recordOf, writingWith, writing}
 use Rattle.desk_records.proofs.Numbers.{Byte, bytes-number}
 use Rattle.desk_records.proofs.Stands.{Stands, stands}
 use Rattle.desk_records.proofs.Admits.{whole-at, places}
-use Rattle.desk_records.proofs.Writes.{writes}
+use Rattle.desk_records.proofs.Writes.{record-length, same-wrote, writes}
 use Rattle.desk_records.proofs.RoundTrip.{record-size, record-payload}
 
 three : (s : List ℕ) → 3 ≤ length s → take 3 s ≡ getD s 0 0 ∷ getD s 1 0 ∷ getD s 2 0 ∷ []
@@ -41,14 +41,19 @@ front-record {m} {w} {k} {n} {s} h b =
 module _ (m w : ℕ) (s : List ℕ) (at : ℕ) {k start n next : ℕ} (e : readWith m w s at ≡ Reading.Record k start n next)
     (b : All Byte (take w (drop lengthAt (drop at s)))) where
   pub read-was-written-with : (take (next - at) (drop at s) ≡ recordWith m w k (partOf s start n))
-      × (writing w k (partOf s start n) (next - at) ≡ Written.Length (next - at))
+      × ((out : List ℕ) → next - at ≤ length out → writingWith m w k (partOf s start n) out
+      ≡ record { number = 0; length = next - at; buffer = overlaid out 0 (take (next - at) (drop at s)) })
   read-was-written-with =
       let h = stands (whole-at m w s at e) in
       let a = places m w s at e in
       let d : next - at ≡ headOf w + n = omega (arith, a .0, a .1) in
-      let l = rw (← a .3) at (h .allowed) in (
-        ap (λ (i : ℕ). take i (drop at s)) d ∙ front-record h b ∙ ap (recordWith m w k) (sym (a .4)),
-        writes w k (partOf s start n) (next - at) l (omega (arith, a .3)) ∙ ap Written.Length (omega (arith, a .3)),
+      let l = rw (← a .3) at (h .allowed) in
+      let bytes : take (next - at) (drop at s) ≡ recordWith m w k (partOf s start n) =
+      ap (λ (i : ℕ). take i (drop at s)) d ∙ front-record h b ∙ ap (recordWith m w k) (sym (a .4)) in (
+        bytes,
+        λ out room.
+            sym (writes m w k (partOf s start n) out l (omega (arith, a .3)))
+            ∙ same-wrote (omega (arith, record-length m w k (partOf s start n), a .3)) (ap (overlaid out 0) (sym bytes)),
       )
 
 -- a length of one byte that is listed is a byte
@@ -59,7 +64,8 @@ one-byte (b ∷ s) h = (omega arith, tt)
 
 pub read-was-written : (s : List ℕ) (at : ℕ) {k start n next : ℕ} → readAt s at ≡ Reading.Record k start n next
     → (take (next - at) (drop at s) ≡ recordOf k (partOf s start n))
-    × (writing lengthWidth k (partOf s start n) (next - at) ≡ Written.Length (next - at))
+    × ((out : List ℕ) → next - at ≤ length out → writing k (partOf s start n) out
+    ≡ record { number = 0; length = next - at; buffer = overlaid out 0 (take (next - at) (drop at s)) })
 read-was-written s at {k} {start} {n} {next} e =
     let h = stands (whole-at secondMark lengthWidth s at e) in
     read-was-written-with secondMark lengthWidth s at e

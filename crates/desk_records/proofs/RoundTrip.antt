@@ -12,13 +12,12 @@ use Rattle.desk_kinds.specs.Kinds.{limitsOf, within}
 use Rattle.desk_kinds.proofs.Entries.{listed-short}
 use Rattle.desk_records.specs.declared.Front.{Front}
 use Rattle.desk_records.specs.declared.Reading.{Reading}
-use Rattle.desk_records.specs.declared.Written.{Written}
 use Rattle.desk_records.specs.Reading.{firstMark, secondMark, lengthWidth, headOf, lengthIn, front, placed, readWith, readAt, partOf}
-use Rattle.desk_records.specs.Writing.{inBytes, recordWith, recordOf, writing}
+use Rattle.desk_records.specs.Writing.{inBytes, recordWith, recordOf, Wrote, writingWith, writing}
 use Rattle.desk_records.proofs.Numbers.{length-bytes, number-bytes}
 use Rattle.desk_records.proofs.Stands.{whole}
 use Rattle.desk_records.proofs.Admits.{places}
-use Rattle.desk_records.proofs.Writes.{accepted}
+use Rattle.desk_records.proofs.Writes.{record-length, accepted}
 
 -- ---- a record in front of any bytes
 module _ (m w k : ℕ) (p rest : List ℕ) where
@@ -45,13 +44,14 @@ module _ (m w k : ℕ) (p rest : List ℕ) where
       }
 
 -- ---- behind any bytes too
-module _ (m w k : ℕ) (p pre rest : List ℕ) (room : ℕ) {n : ℕ} (h : length p < 256 ^ w) (e : writing w k p room ≡ Written.Length n) where
+module _ (m w k : ℕ) (p pre rest out : List ℕ) (h : length p < 256 ^ w) (e : writingWith m w k p out .number ≡ 0) where
   pub written-reads-with : readWith m w (pre ++ (recordWith m w k p ++ rest)) (length pre)
-      ≡ Reading.Record k (length pre + headOf w) (length p) (length pre + n)
+      ≡ Reading.Record k (length pre + headOf w) (length p) (length pre + writingWith m w k p out .length)
   unfolding readWith placed
   written-reads-with =
-      let a = accepted w k p room e in
-      let z : length pre + headOf w + length p ≡ length pre + n = omega (arith, a .2) in
+      let a = accepted m w k p out e in
+      let n : length (recordWith m w k p) ≡ writingWith m w k p out .length = ap (λ (x : Wrote). x .length) (a .1) in
+      let z : length pre + headOf w + length p ≡ length pre + writingWith m w k p out .length = omega (arith, n, record-length m w k p) in
       ap (λ (x : List ℕ). placed w (length pre) (front m w x)) (drop-append-seam pre (recordWith m w k p ++ rest))
       ∙ ap (placed w (length pre)) (record-front m w k p rest h (a .0))
       ∙ ap (Reading.Record k (length pre + headOf w) (length p)) z
@@ -63,12 +63,13 @@ module _ (m w k : ℕ) (p pre rest : List ℕ) (room : ℕ) {n : ℕ} (h : lengt
       ∙ record-payload m w k p rest
 
 -- ---- in the form of the desk
-module _ (k : ℕ) (p pre rest : List ℕ) (room : ℕ) {n : ℕ} (e : writing lengthWidth k p room ≡ Written.Length n) where
+module _ (k : ℕ) (p pre rest out : List ℕ) (e : writing k p out .number ≡ 0) where
   short : length p < 256
-  short = let l = listed-short k (length p) (accepted lengthWidth k p room e .0) in omega arith
+  short = let l = listed-short k (length p) (accepted secondMark lengthWidth k p out e .0) in omega arith
 
-  pub written-reads : readAt (pre ++ (recordOf k p ++ rest)) (length pre) ≡ Reading.Record k (length pre + 4) (length p) (length pre + n)
-  written-reads = written-reads-with secondMark lengthWidth k p pre rest room short e
+  pub written-reads : readAt (pre ++ (recordOf k p ++ rest)) (length pre)
+      ≡ Reading.Record k (length pre + 4) (length p) (length pre + writing k p out .length)
+  written-reads = written-reads-with secondMark lengthWidth k p pre rest out short e
 
   pub written-payload : partOf (pre ++ (recordOf k p ++ rest)) (length pre + 4) (length p) ≡ p
-  written-payload = written-payload-with secondMark lengthWidth k p pre rest room short e
+  written-payload = written-payload-with secondMark lengthWidth k p pre rest out short e

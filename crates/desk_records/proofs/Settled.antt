@@ -1,7 +1,7 @@
--- The number and the length that writing tells settle its answer.
+-- What writing comes to settles its answer, by the number and the length that it tells, and the buffer.
 use Prim.Native.Nat.{ℕ}
 use mathlib.Core.Path.{_≡_, refl, sym, ap, _∙_}
-use mathlib.Core.List.{[]}
+use mathlib.Core.List.{List, []}
 use native.Mathlib.Omega.{arith}
 use Rattle.rules.specs.Record.{fresh}
 use Rattle.rules.specs.Calls.{nothing, Outcome}
@@ -10,7 +10,7 @@ use Rattle.answers.specs.declared.After.{After}
 use Rattle.answers.specs.Told.{stateOf, gave}
 use Rattle.answers.proofs.Settled.{gave-settled}
 use Rattle.desk_records.specs.declared.Written.{Written}
-use Rattle.desk_records.specs.Writing.{numberIn, lengthOf}
+use Rattle.desk_records.specs.Writing.{numberIn, lengthOf, Wrote, writing}
 
 -- a writer's answer as that of a call that reports nothing
 answer : Written → Answer
@@ -39,3 +39,10 @@ written-settled a b e l =
     ∙ ap (λ (i : ℕ). record { number = i; values = nothing; state = stateOf fresh []; reply = [] }) e
     ∙ sym (outcome-told b) in
     same-answer a b (ap (λ (x : After). x .answer) (gave-settled told .0)) l
+
+pub write-settled : (k : ℕ) (p out : List ℕ) {a b : Written} {left left′ : List ℕ}
+    (one : record { number = numberIn a; length = lengthOf a; buffer = left } ≡ writing k p out)
+    (other : record { number = numberIn b; length = lengthOf b; buffer = left′ } ≡ writing k p out) → (a ≡ b) × (left ≡ left′)
+write-settled k p out {a} {b} one other =
+    let same = one ∙ sym other in
+    (written-settled a b (ap (λ (x : Wrote). x .number) same) (ap (λ (x : Wrote). x .length) same), ap (λ (x : Wrote). x .buffer) same)

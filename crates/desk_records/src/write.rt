@@ -4,11 +4,9 @@ use crate::Written;
 use answers::Why;
 use desk_kinds::table;
 ghost use mathlib.Core.Path.{_≡_};
-ghost use Prim.Native.Nat.{_+_, _≤_};
-ghost use lib.ListN.{length};
+ghost use Prim.Native.Nat.{_≤_};
 ghost use Rattle.desk_text.specs.Put.{Puts};
-ghost use Rattle.desk_records.specs.Reading.{lengthWidth};
-ghost use Rattle.desk_records.specs.Writing.{inBytes, recordWith, recordOf, writing, frontFilled};
+ghost use Rattle.desk_records.specs.Writing.{inBytes, recordWith, numberIn, lengthOf, writingWith, writing};
 
 fn put_number(out: &mut [u8], at: usize, width: usize, n: usize) -> usize
     requires { ⌜ (1 ≤ width) × (width ≤ 2) ⌝ }
@@ -34,8 +32,12 @@ fn put_record(out: &mut [u8], mark: u8, width: usize, kind: u8, body: &[u8]) -> 
 
 fn write_with(out: &mut [u8], mark: u8, width: usize, kind: u8, body: &[u8]) -> Written
     requires { ⌜ (1 ≤ width) × (width ≤ 2) ⌝ }
-    ensures answer { λ r. ⌜ r ≡ writing width kind (now (body .entry)) (length (now (out .entry))) ⌝ }
-    ensures buffer { λ r. ⌜ now (out .exit) ≡ frontFilled r (recordWith mark width kind (now (body .entry))) (now (out .entry)) ⌝ }
+    ensures { λ r. ⌜ record {
+      number = numberIn r;
+      length = lengthOf r;
+      buffer = now (out .exit);
+    }
+        ≡ writingWith mark width kind (now (body .entry)) (now (out .entry)) ⌝ }
 {
     let found = table::limits(kind);
     let n = body.len();
@@ -50,8 +52,12 @@ fn write_with(out: &mut [u8], mark: u8, width: usize, kind: u8, body: &[u8]) -> 
 
 // A record of a kind with a payload. The buffer stays as it was where the answer is a refusal.
 pub fn write(out: &mut [u8], kind: u8, body: &[u8]) -> Written
-    ensures answer { λ r. ⌜ r ≡ writing lengthWidth kind (now (body .entry)) (length (now (out .entry))) ⌝ }
-    ensures buffer { λ r. ⌜ now (out .exit) ≡ frontFilled r (recordOf kind (now (body .entry))) (now (out .entry)) ⌝ }
+    ensures { λ r. ⌜ record {
+      number = numberIn r;
+      length = lengthOf r;
+      buffer = now (out .exit);
+    }
+        ≡ writing kind (now (body .entry)) (now (out .entry)) ⌝ }
 {
     write_with(out, crate::MARK, crate::WIDTH, kind, body)
 }

@@ -1,1 +1,2 @@
 pub mod AnyRing
+pub mod Settled

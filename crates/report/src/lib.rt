@@ -13,8 +13,8 @@ ghost use Rattle.rules.specs.Record.{sound};
 ghost use Rattle.rules.specs.Feeder.{trayAt};
 ghost use Rattle.rules.specs.Moves.{withFeeder, filled};
 ghost use Rattle.rules.specs.Calls.{report, Bytes, SideEnded, Tray, Path, Tick};
-ghost use lib.ListN.{length as len, replicate};
-ghost use Rattle.rules.specs.Machine.{step, run};
+ghost use lib.ListN.{length as len};
+ghost use Rattle.rules.specs.Machine.{step};
 ghost use Rattle.answers.specs.Told.{stateOf, gave};
 
 // k bytes more are stored; a sign of life where that is 1 or more.
@@ -143,18 +143,4 @@ pub fn tick(r: Record, ring: &[u8]) -> After
     ensures { λ a. ⌜ gave a (now (ring .entry)) [] ≡ step (stateOf r (now (ring .entry))) (report Tick) ⌝ }
 {
     tick_in(r, ring.len())
-}
-
-// So many seconds, one Tick after the other: the record that they leave.
-pub fn ticks(r: Record, ring: &[u8], seconds: u32) -> Record
-    ensures { λ n. ⌜ n ≡ run (stateOf r (now (ring .entry))) (replicate seconds (report Tick)) .end .box ⌝ }
-{
-    let mut last = r;
-    let mut passed: u32 = 0;
-    while passed < seconds {
-        let a = tick(last, ring);
-        last = a.next;
-        passed += 1;
-    }
-    last
 }

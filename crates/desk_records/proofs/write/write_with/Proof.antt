@@ -1,9 +1,6 @@
--- Each return is an arm of the definition's tests (`Fronts`), and what was put is whole (`Writes`).
-use mathlib.Core.Path.{refl}
+-- Each return is a case of the definition, and what was put is whole (`Writes`).
 use borrow.Author.Needs.{needs}
-use Rattle.desk_records.specs.Writing.{writing}
-use Rattle.desk_records.proofs.Fronts.{sizes}
-use Rattle.desk_records.proofs.Writes.{record-next, record-stands}
+use Rattle.desk_records.proofs.Writes.{told-601, told-603, told-0}
 use Rattle.desk_records.proofs.write.write_with.Statement.{statement}
 use Rattle.desk_records.proofs.write.write_with.Tie as tie
 
@@ -14,8 +11,7 @@ admits-requires : tie.Need-admits-requires
 admits-requires c κs = search needs
 
 returns : tie.Need-returns
-unfolding writing
-returns c = (search (needs, sizes), refl)
+returns c = search (needs, told-601)
 
 add-if2 : tie.Need-add-if2
 add-if2 c = search needs
@@ -24,8 +20,7 @@ add-if2-2 : tie.Need-add-if2-2
 add-if2-2 c = search needs
 
 returns-2 : tie.Need-returns-2
-unfolding writing
-returns-2 c = (search (needs, sizes), refl)
+returns-2 c = search (needs, told-603)
 
 put-record-requires : tie.Need-put-record-requires
 put-record-requires c κs = search needs
@@ -34,8 +29,7 @@ same-length : tie.Need-same-length
 same-length c = search needs
 
 returns-3 : tie.Need-returns-3
-unfolding writing
-returns-3 c = (search (needs, sizes, record-next), search (needs, record-stands))
+returns-3 c = search (needs, told-0)
 
 pub write-with-spec : {M : Type 1} → statement M
 write-with-spec =
