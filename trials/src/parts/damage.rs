@@ -2,7 +2,7 @@
 
 use super::streams::{cut_and_whole, serve};
 use super::{Differs, Trial};
-use crate::case::{whole, Call, Start};
+use crate::case::{whole, Call, Input, Start};
 use crate::guide::{Guide, Mix};
 use crate::rng::Rng;
 use crate::start::{ring_length, some_start};
@@ -60,10 +60,11 @@ fn every_short_head(trial: &mut Trial) -> Result<u64, Differs> {
 
 /// The input by perform, and by a serve: where more input may come, a cut record waits.
 fn waiting(trial: &mut Trial, start: &Start, input: &[u8], serve: Call) -> Result<(), Differs> {
+    let input = Input::from(input.to_vec());
     trial.begin(start);
-    let call = Call::perform(input.to_vec());
-    let input = call.input.clone();
-    trial.call(call)?;
+    for last in [false, true] {
+        trial.call(Call { last, ..Call::perform(input.clone()) })?;
+    }
     trial.call(Call { input, ..serve })?;
     trial.end()
 }
