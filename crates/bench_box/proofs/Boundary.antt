@@ -60,6 +60,6 @@ module _ (offset : ℕ) (lines : List ℕ) (room : lineRoom ≤ length lines) wh
   pub bad-whole : fitting lines 0 (badText offset) ≡ badText offset
   bad-whole = whole (badText offset) (bad-short offset)
 
-  pub line-whole : (box : State) (input reply : List ℕ) → length reply ≤ replyRoom
-      → fitting lines 0 (piece (length reply) offset true box input .text) ≡ piece (length reply) offset true box input .text
-  line-whole box input reply lends = whole _ (piece-short offset true box input (length reply) lends)
+  pub line-whole : (last : Bool) (box : State) (input reply : List ℕ) → length reply ≤ replyRoom
+      → fitting lines 0 (piece (length reply) offset last box input .text) ≡ piece (length reply) offset last box input .text
+  line-whole last box input reply lends = whole _ (piece-short offset last box input (length reply) lends)

@@ -97,6 +97,7 @@ pub extern "C" fn bench_box_perform(
     reply: &mut [u8],
     input: &[u8],
     offset: u64,
+    last: bool,
     line: &mut [u8],
     progress: &mut [usize; 3],
 ) -> u16
@@ -108,10 +109,10 @@ pub extern "C" fn bench_box_perform(
       lines = now (line .exit);
       progress = now (progress .exit);
     }
-        ≡ toHost (performing (now (words .entry)) (now (ring .entry)) (now (reply .entry)) (now (input .entry)) offset (now (line .entry))) ⌝ }
+        ≡ toHost (performing (now (words .entry)) (now (ring .entry)) (now (reply .entry)) (now (input .entry)) offset last (now (line .entry))) ⌝ }
     ensures { λ _. ⌜ isBox (now (words .exit)) (len (now (ring .exit))) ≡ isBox (now (words .entry)) (len (now (ring .entry))) ⌝ }
 {
-    let one = desk_stream::perform(words, ring, reply, input, offset, line);
+    let one = desk_stream::perform(words, ring, reply, input, offset, last, line);
     tell(progress, one);
     one.number
 }

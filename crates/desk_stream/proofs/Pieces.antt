@@ -21,7 +21,7 @@ use Rattle.desk_text.proofs.Putting.{put-none, moved, length-digits}
 use Rattle.desk_line.specs.Line.{lineRoom}
 use Rattle.desk_line.proofs.Bound.{step-bound}
 use Rattle.desk_stream.specs.Desk.{Heard, calling, wrong, hears, replyRoom, callWith, badLine, badText}
-use Rattle.desk_stream.specs.Window.{Piece, answeredBy, brokenAt, waitingIn, waits, unheardIn, pieceOf, piece, repliedIn}
+use Rattle.desk_stream.specs.Window.{Piece, noRecord, answeredBy, brokenAt, waitingIn, waits, unheardIn, pieceOf, piece, repliedIn}
 use Rattle.stored.specs.Stored.{kept, isBox}
 use Rattle.desk_stream.specs.Held.{Turns}
 use Rattle.desk_stream.proofs.Hearing.{heard-whole, heard-asking}
@@ -64,8 +64,8 @@ module _ (at : ℕ) (last : Bool) (box : State) (s : List ℕ) where
   pub unheard-box : unheardIn at last box s .box ≡ box
   unheard-box = unheard-either (λ (p : Piece). p .box ≡ box) refl refl
 
-  pub unheard-number : unheardIn at last box s .number ≡ 0
-  unheard-number = unheard-either (λ (p : Piece). p .number ≡ 0) refl refl
+  pub unheard-number : unheardIn at last box s .number ≡ noRecord
+  unheard-number = unheard-either (λ (p : Piece). p .number ≡ noRecord) refl refl
 
   -- with a reply no longer than the desk's
   short-by : (room : ℕ) → room ≤ replyRoom → (h : Heard) → length (pieceOf room at last box s h .text) ≤ lineRoom
@@ -100,7 +100,7 @@ module _ (at : ℕ) (last : Bool) (box : State) (s : List ℕ) where
   piece-is room h e = ap (pieceOf room at last box s) e
 
   -- nothing answered: the box stays, and the text and the end are as the code found them
-  pub unheard-turns : {out ws ring out' : List ℕ} {filled number written : ℕ} {ended : Bool} → hears s ≡ wrong → number ≡ 0
+  pub unheard-turns : {out ws ring out' : List ℕ} {filled number written : ℕ} {ended : Bool} → hears s ≡ wrong → number ≡ noRecord
       → ended ≡ not (waits last s) → Puts out filled (cond (waits last s) [] (badText at)) written out'
       → ws ≡ kept (box .box) → ring ≡ box .bytes → isBox ws (length ring) ≡ true → (room : ℕ)
       → Turns (piece room at last box s) out filled number written ended ws ring out'

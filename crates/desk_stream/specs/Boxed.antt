@@ -4,13 +4,13 @@ use mathlib.Core.Bool.{Bool, true, false, cond}
 use mathlib.Core.List.{List, []}
 use lib.Dec.{leb}
 use lib.ListN.{length}
-use Rattle.rules.specs.Calls.{n604, numberOf, State}
+use Rattle.rules.specs.Calls.{n603, n604, numberOf, State}
 use Rattle.answers.specs.Told.{stateOf}
 use Rattle.desk_text.specs.Put.{fitting, overlaid}
 use Rattle.desk_line.specs.Line.{lineRoom}
 use Rattle.stored.specs.Stored.{kept, recorded, isBox}
 use Rattle.desk_stream.specs.Desk.{hears}
-use Rattle.desk_stream.specs.Window.{Piece, waitingIn, piece, repliedIn, Progress, outset, served}
+use Rattle.desk_stream.specs.Window.{Piece, piece, repliedIn, Progress, outset, served}
 
 -- the box that numbers and a ring are
 abbrev pub boxIn : List ℕ → List ℕ → State
@@ -32,10 +32,21 @@ pub record Came : Type 0 where
 abbrev pub unsoundNumber : ℕ
 unsoundNumber = numberOf n604
 
--- 604: all as it was
-abbrev pub asItWas : List ℕ → List ℕ → List ℕ → List ℕ → Came
-asItWas ws ring reply lines =
-    record { number = unsoundNumber; words = ws; ring = ring; reply = reply; lines = lines; read = 0; written = 0; ended = false }
+-- less room than a line may take
+abbrev pub noRoomNumber : ℕ
+noRoomNumber = numberOf n603
+
+-- a call that is not begun leaves all as it was
+abbrev pub asItWas : ℕ → List ℕ → List ℕ → List ℕ → List ℕ → Came
+asItWas number ws ring reply lines =
+    record { number = number; words = ws; ring = ring; reply = reply; lines = lines; read = 0; written = 0; ended = false }
+
+-- 604, then 603; else what comes of it
+abbrev pub begun : List ℕ → List ℕ → List ℕ → List ℕ → Came → Came
+begun ws ring reply lines came =
+    cond (isBox ws (length ring))
+    (cond (leb lineRoom (length lines)) came (asItWas noRoomNumber ws ring reply lines))
+    (asItWas unsoundNumber ws ring reply lines)
 
 -- a window, as the desk serves it; its replies are not the host's
 abbrev pub windowed : List ℕ → Progress → Came
@@ -53,8 +64,7 @@ windowed lines p =
 
 unfoldable pub serving : List ℕ → List ℕ → List ℕ → ℕ → Bool → List ℕ → Came
 serving ws ring input base last lines =
-    cond (isBox ws (length ring)) (windowed lines (served base last (length lines) 0 (outset (boxIn ws ring)) input))
-    (asItWas ws ring [] lines)
+    begun ws ring [] lines (windowed lines (served base last (length lines) 0 (outset (boxIn ws ring)) input))
 
 -- one record: its text is put as far as there is room. With a reply of up to 259 bytes that is all of it (`line-whole`, `bad-whole`)
 abbrev pub saying : Piece → List ℕ → List ℕ → Came
@@ -70,14 +80,8 @@ saying p reply lines =
       ended = p .ended;
     }
 
--- the record at the input's front, which is all the input that there is: one that is cut is bad
-abbrev pub oneOf : State → List ℕ → List ℕ → ℕ → List ℕ → Came
-oneOf box reply input offset lines = saying (piece (length reply) offset true box input) (repliedIn (hears input) box reply) lines
-
--- with less room than a line may take nothing is done
-abbrev pub onceIn : State → List ℕ → List ℕ → ℕ → List ℕ → Came
-onceIn box reply input offset lines = cond (leb lineRoom (length lines)) (oneOf box reply input offset lines) (saying (waitingIn box) reply lines)
-
-unfoldable pub performing : List ℕ → List ℕ → List ℕ → List ℕ → ℕ → List ℕ → Came
-performing ws ring reply input offset lines =
-    cond (isBox ws (length ring)) (onceIn (boxIn ws ring) reply input offset lines) (asItWas ws ring reply lines)
+-- the record at the input's front; one that is only cut waits, unless the input is all there is
+unfoldable pub performing : List ℕ → List ℕ → List ℕ → List ℕ → ℕ → Bool → List ℕ → Came
+performing ws ring reply input offset last lines =
+    begun ws ring reply lines
+    (saying (piece (length reply) offset last (boxIn ws ring) input) (repliedIn (hears input) (boxIn ws ring) reply) lines)

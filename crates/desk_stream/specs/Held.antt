@@ -1,13 +1,19 @@
 -- A piece and a window as the code holds them: numbers, ring and lines. No contract of an exported function cites this.
-use Prim.Native.Nat.{ℕ, _≤_}
+use Prim.Native.Nat.{ℕ, _+_, _≤_}
 use mathlib.Core.Path.{_≡_}
-use mathlib.Core.Bool.{Bool, true}
+use mathlib.Core.Bool.{Bool, true, cond}
 use mathlib.Core.List.{List}
+use lib.Dec.{leb}
 use lib.ListN.{length}
 use Rattle.desk_text.specs.Put.{Puts, overlaid}
+use Rattle.desk_line.specs.Line.{lineRoom}
 use Rattle.stored.specs.Stored.{kept, isBox}
 use Rattle.desk_stream.specs.Window.{Piece, Progress, outset, served}
-use Rattle.desk_stream.specs.Boxed.{boxIn}
+use Rattle.desk_stream.specs.Boxed.{boxIn, unsoundNumber, noRoomNumber}
+
+-- why nothing is begun: 604, then 603; else 0
+abbrev pub barredBy : List ℕ → ℕ → ℕ → ℕ
+barredBy ws n room = cond (isBox ws n) (cond (leb (0 + lineRoom) room) 0 noRoomNumber) unsoundNumber
 
 -- the piece's text is put, and the box is the one that it leaves
 pub record Turns (p : Piece) (out : List ℕ) (filled number written : ℕ) (ended : Bool) (ws ring out' : List ℕ) : Type 0 where

@@ -19,17 +19,21 @@ pub record Piece : Type 0 where
   pub text : List ℕ
   pub ended : Bool
 
+-- where no record is answered: no number of the paper, and not 0, which is acceptance
+abbrev pub noRecord : ℕ
+noRecord = 0xFFFF
+
 -- an answered record has its size and its line
 abbrev pub answeredBy : ℕ → Outcome → ℕ → Piece
 answeredBy k o size = record { number = o .number; box = o .state; size = size; text = lineFor k o; ended = false }
 
 -- so has a bad one: nothing of it is passed over, and it ends the desk. `at` is its offset in the input
 abbrev pub brokenAt : ℕ → State → Piece
-brokenAt at box = record { number = 0; box = box; size = 0; text = badText at; ended = true }
+brokenAt at box = record { number = noRecord; box = box; size = 0; text = badText at; ended = true }
 
 -- one that is only cut waits for more input, if more may come
 abbrev pub waitingIn : State → Piece
-waitingIn box = record { number = 0; box = box; size = 0; text = []; ended = false }
+waitingIn box = record { number = noRecord; box = box; size = 0; text = []; ended = false }
 
 abbrev pub waits : Bool → List ℕ → Bool
 waits last s = cut (front secondMark lengthWidth s) && not last

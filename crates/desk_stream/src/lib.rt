@@ -14,8 +14,8 @@ ghost use Rattle.desk_text.specs.Put.{Puts};
 ghost use Rattle.desk_line.specs.Line.{lineRoom};
 ghost use Rattle.stored.specs.Stored.{isBox};
 ghost use Rattle.desk_stream.specs.Desk.{replyRoom, hears, callWith, badLine, badText};
-ghost use Rattle.desk_stream.specs.Window.{waits, answeredBy, piece, repliedIn, unread};
-ghost use Rattle.desk_stream.specs.Held.{Turns, Serves};
+ghost use Rattle.desk_stream.specs.Window.{noRecord, waits, answeredBy, piece, repliedIn, unread};
+ghost use Rattle.desk_stream.specs.Held.{barredBy, Turns, Serves};
 ghost use Rattle.desk_stream.specs.Boxed.{boxIn, serving, performing};
 
 // The reply that serves all fetches of a window.
@@ -23,6 +23,12 @@ const REPLY_ROOM: usize = 259;
 
 // The number for numbers that are no box.
 pub const UNSOUND: u16 = 604;
+
+// The number where the lines have less room than one may take.
+const NO_ROOM: u16 = 603;
+
+// The number where no record reads: none of the paper's, and not acceptance.
+const NO_RECORD: u16 = 0xFFFF;
 
 // What came of a record, or of a window of them: the number, how far the input is read, how much text stands in the lines, and
 // whether a bad record was met.
@@ -44,14 +50,14 @@ fn put_bad(out: &mut [u8], at: usize, offset: u64) -> usize
 // ---- one record's piece of the input
 // Where no record reads: a cut one waits for more input, if more may come; any other is bad.
 fn stop(s: &[u8], at: usize, base: u64, last: bool, out: &mut [u8], filled: usize) -> Came
-    ensures { λ t. ⌜ t .number ≡ 0 ⌝ }
+    ensures { λ t. ⌜ t .number ≡ noRecord ⌝ }
     ensures { λ t. ⌜ t .read ≡ at ⌝ }
     ensures { λ t. ⌜ t .ended ≡ not (waits last (drop at (now (s .entry)))) ⌝ }
     ensures { λ t. ⌜ Puts (now (out .entry)) filled (cond (waits last (drop at (now (s .entry)))) [] (badText (base + at))) (t .written) (now (out .exit)) ⌝ }
 {
     if desk_records::read::is_cut(s, at) & !last {
         return Came {
-            number: 0,
+            number: NO_RECORD,
             read: at,
             written: filled,
             ended: false,
@@ -59,7 +65,7 @@ fn stop(s: &[u8], at: usize, base: u64, last: bool, out: &mut [u8], filled: usiz
     }
     let end = put_bad(out, filled, std::num::wrapping_add_u64(base, at as u64));
     Came {
-        number: 0,
+        number: NO_RECORD,
         read: at,
         written: end,
         ended: true,
@@ -185,11 +191,25 @@ fn serve_with(
     }
 }
 
-fn unsound() -> Came
-    ensures { λ t. ⌜ t ≡ record { number = 604; read = 0; written = 0; ended = false } ⌝ }
+// ---- what a host calls
+// Why nothing is begun: 604 where the numbers are no box; then 603 where a line may lack room. Else 0.
+fn barred(w: &[u64; WORDS], length: usize, room: usize) -> u16
+    ensures { λ n. ⌜ n ≡ barredBy (now (w .entry)) length room ⌝ }
+{
+    if !stored::is_box(w, length) {
+        return UNSOUND;
+    }
+    if !desk_line::has_room(0, room) {
+        return NO_ROOM;
+    }
+    0
+}
+
+fn refused(number: u16) -> Came
+    ensures { λ t. ⌜ t ≡ record { number = number; read = 0; written = 0; ended = false } ⌝ }
 {
     Came {
-        number: UNSOUND,
+        number,
         read: 0,
         written: 0,
         ended: false,
@@ -221,20 +241,23 @@ pub fn serve(
     ensures { λ t. ⌜ t .written ≤ length (now (out .exit)) ⌝ }
     ensures { λ _. ⌜ isBox (now (w .exit)) (length (now (ring .exit))) ≡ isBox (now (w .entry)) (length (now (ring .entry))) ⌝ }
 {
-    if !stored::is_box(w, ring.len()) {
-        return unsound();
+    let number = barred(w, ring.len(), out.len());
+    if number > 0 {
+        return refused(number);
     }
     let mut reply = [0; REPLY_ROOM];
     serve_with(w, ring, &mut reply, s, base, last, out)
 }
 
-// Answers the record at the front of the input, and puts its line, where there is room for any.
+// Answers the record at the front of the input, and puts its line. `last` says that no input follows: a record that is only cut is
+// bad then, and waits otherwise.
 pub fn perform(
     w: &mut [u64; WORDS],
     ring: &mut [u8],
     reply: &mut [u8],
     s: &[u8],
     offset: u64,
+    last: bool,
     out: &mut [u8],
 ) -> Came
     ensures { λ t. ⌜ record {
@@ -247,22 +270,14 @@ pub fn perform(
       written = t .written;
       ended = t .ended;
     }
-        ≡ performing (now (w .entry)) (now (ring .entry)) (now (reply .entry)) (now (s .entry)) offset (now (out .entry)) ⌝ }
+        ≡ performing (now (w .entry)) (now (ring .entry)) (now (reply .entry)) (now (s .entry)) offset last (now (out .entry)) ⌝ }
     ensures { λ _. ⌜ isBox (now (w .exit)) (length (now (ring .exit))) ≡ isBox (now (w .entry)) (length (now (ring .entry))) ⌝ }
 {
-    if !stored::is_box(w, ring.len()) {
-        return unsound();
+    let number = barred(w, ring.len(), out.len());
+    if number > 0 {
+        return refused(number);
     }
-    stored::count(*w);
-    if !desk_line::has_room(0, out.len()) {
-        return Came {
-            number: 0,
-            read: 0,
-            written: 0,
-            ended: false,
-        };
-    }
-    turn(w, ring, reply, s, 0, offset, true, out, 0)
+    turn(w, ring, reply, s, 0, offset, last, out, 0)
 }
 
 // What is left of `a`, 0 where `b` exceeds it.
