@@ -276,7 +276,7 @@ pub fn differs(proved: &[u8], peer: &[u8]) -> Difference {
     let told = |side: fn(&Both) -> &String| facts.iter().map(side).cloned().collect::<Vec<String>>().join("; ");
     let what = told(|(ours, _)| &ours.0);
     let number = ours.came.number;
-    let is_refused = number != 0 && number == theirs.came.number;
+    let is_refused = ![0, NO_RECORD].contains(&number) && number == theirs.came.number;
     let what = if is_refused { format!("{number} leaves something changed: {what}") } else { what };
     Difference::new(what, told(|(ours, _)| &ours.1), told(|(_, theirs)| &theirs.1))
 }
