@@ -9,6 +9,7 @@
 
 #include <stdalign.h>
 #include <stdio.h>
+#include <stdlib.h>
 #include <string.h>
 #include <ucontext.h>
 
@@ -53,18 +54,69 @@ static bench_box box;
 static uint8_t ring[RING], reply[BENCH_BOX_REPLY_MOST];
 static char line[8 * BENCH_BOX_LINE_MOST];
 
+/* What the calls are given and answer. */
+static struct {
+    uint8_t input[BENCH_BOX_RECORD_MOST];
+    size_t length, reply_length, line_length;
+    uint64_t offset;
+    bool last;
+    bench_box_progress progress;
+    uint16_t number;
+} lent = {.reply_length = sizeof reply, .line_length = sizeof line, .last = true};
+
+/* Where they find it. */
+static struct {
+    bench_box *box;
+    uint8_t *ring, *reply, *input, *line;
+    bench_box_progress *progress;
+} at = {&box, ring, reply, lent.input, (uint8_t *)line, &lent.progress};
+
+static void *block(const void *from, size_t length)
+{
+    void *to = malloc(length);
+    if (to == NULL) {
+        puts("sizes: no memory");
+        exit(2);
+    }
+    return memcpy(to, from, length);
+}
+
+static void give_back(void *to, void *from, size_t length)
+{
+    memcpy(to, from, length);
+    free(from);
+}
+
+/* Each thing in a block of the heap, of its own length: memcheck tells what is touched beside it. */
+static void in_blocks(void (*call)(void))
+{
+    at.box = block(&box, sizeof box);
+    at.ring = block(ring, sizeof ring);
+    at.reply = block(reply, lent.reply_length);
+    at.input = block(lent.input, lent.length);
+    at.line = block(line, lent.line_length);
+    at.progress = block(&lent.progress, sizeof lent.progress);
+    call();
+    give_back(&box, at.box, sizeof box);
+    give_back(ring, at.ring, sizeof ring);
+    give_back(reply, at.reply, lent.reply_length);
+    give_back(lent.input, at.input, lent.length);
+    give_back(line, at.line, lent.line_length);
+    give_back(&lent.progress, at.progress, sizeof lent.progress);
+}
+
 /* Each call has a painted stack of its own; what is no longer painted afterwards, it took. */
 enum { PAINT = 0x5E, STACK = 65536 };
 static uint8_t stack[STACK];
 static size_t deepest;
-static bool plain; /* on the usual stack: memcheck does not know a painted one */
+static bool plain; /* on the usual stack and in blocks: memcheck does not know a painted one */
 static ucontext_t here, there;
 
 static void on_painted_stack(void (*call)(void))
 {
     size_t kept = 0;
     if (plain) {
-        call();
+        in_blocks(call);
         return;
     }
     memset(stack, PAINT, sizeof stack);
@@ -82,41 +134,31 @@ static void on_painted_stack(void (*call)(void))
     }
 }
 
-/* What the calls are given and answer. */
-static struct {
-    uint8_t input[BENCH_BOX_RECORD_MOST];
-    size_t length, reply_length, line_length;
-    uint64_t offset;
-    bool last;
-    bench_box_progress progress;
-    uint16_t number;
-} lent = {.reply_length = sizeof reply, .line_length = sizeof line, .last = true};
-
 static void call_perform(void)
 {
-    lent.number = bench_box_perform(&box, ring, RING, reply, lent.reply_length, lent.input, lent.length, lent.offset,
-                                    lent.last, (uint8_t *)line, lent.line_length, &lent.progress);
+    lent.number = bench_box_perform(at.box, at.ring, RING, at.reply, lent.reply_length, at.input, lent.length, lent.offset,
+                                    lent.last, at.line, lent.line_length, at.progress);
 }
 
 static void call_serve(void)
 {
-    lent.number = bench_box_serve(&box, ring, RING, lent.input, lent.length, lent.offset, lent.last, (uint8_t *)line,
-                                  lent.line_length, &lent.progress);
+    lent.number = bench_box_serve(at.box, at.ring, RING, at.input, lent.length, lent.offset, lent.last, at.line,
+                                  lent.line_length, at.progress);
 }
 
 static void call_tick(void)
 {
-    bench_box_tick(&box, RING);
+    bench_box_tick(at.box, RING);
 }
 
 static void call_fresh(void)
 {
-    bench_box_fresh(&box);
+    bench_box_fresh(at.box);
 }
 
 static void call_ask(void)
 {
-    bench_box_ask(&box, RING, BENCH_BOX_STORED);
+    bench_box_ask(at.box, RING, BENCH_BOX_STORED);
 }
 
 static unsigned digit(char hex)
