@@ -232,7 +232,7 @@ static void shift(void)
                ask(BENCH_BOX_FEEDER_STATE) == BENCH_BOX_FEEDER_UNLOADED,
            "Side ended");
 
-    /* A reply too short for its head; two bytes of three; the last one. */
+    /* A reply too short for its head: the record's own 603, for it is read. Then two bytes of three; the last one. */
     expect(perform_with(BENCH_BOX_REPLY_HEAD - 1, BENCH_BOX_KIND_FETCH, "02" NAME_1) == BENCH_BOX_NO_ROOM &&
                reply[0] == GUARD,
            "a fetch into three bytes");

@@ -68,9 +68,9 @@ impl ByWords {
     const UNSOUND: u16 = peer::Reason::Unsound as u16;
 
     #[inline(always)]
-    fn call<T>(&mut self, no_record: T, call: impl FnOnce(&mut peer::Record) -> T) -> T {
+    fn call<T>(&mut self, unsound: T, call: impl FnOnce(&mut peer::Record) -> T) -> T {
         let Some(mut record) = peer::Record::from_words(&self.0) else {
-            return no_record;
+            return unsound;
         };
         let answer = call(&mut record);
         self.0 = record.to_words();

@@ -126,8 +126,10 @@ type Finds = (&'static str, fn(&Call, &Came) -> bool);
 /// What calls find that answer no record: too little room for a line, and what stands at the front of the input.
 const UNANSWERED: [Finds; 12] = [
     ("perform, no room, a record", |call, came| lacks_room(call, came, Kind::Perform) && is_whole(call)),
-    ("perform, no room, bad or cut", |call, came| lacks_room(call, came, Kind::Perform) && !is_whole(call)),
-    ("perform, no room, no input", |call, came| lacks_room(call, came, Kind::Perform) && call.input.is_empty()),
+    ("perform, no room, a cut record or none", |call, came| lacks_room(call, came, Kind::Perform) && is_cut(call)),
+    ("perform, no room, a bad record", |call, came| {
+        lacks_room(call, came, Kind::Perform) && !is_cut(call) && !is_whole(call)
+    }),
     ("perform, no input, more may come", |call, came| waits(call, came) && call.input.is_empty()),
     ("perform, a cut record, more may come", |call, came| waits(call, came) && !call.input.is_empty()),
     ("perform, a bad record, more may come", |call, came| ends(call, came) && !call.last),
