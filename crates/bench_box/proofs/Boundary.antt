@@ -10,7 +10,7 @@ use lib.ListN.{length, replicate}
 use lib.Seq.{take-all}
 use Rattle.rules.specs.declared.Record.{Record}
 use Rattle.rules.specs.Record.{fresh, sound}
-use Rattle.rules.specs.Calls.{State, report, Tick}
+use Rattle.rules.specs.Calls.{Reason, n604, n601, n712, n404, n501, n711, n713, n603, numberOf, State, report, Tick}
 use Rattle.rules.specs.Machine.{runBy}
 use Rattle.rules.specs.Promises.{Ringed}
 use Rattle.rules.proofs.Theorems.{refused-keeps, run-sound}
@@ -21,7 +21,7 @@ use Rattle.stored.specs.Stored.{wordCount, kept, recorded, allFit, isBox}
 use Rattle.stored.proofs.Back.{kept-recorded, recorded-kept}
 use Rattle.stored.proofs.Boxes.{box-fits, boxed, as-sound}
 use Rattle.desk_stream.specs.Desk.{replyRoom, badText}
-use Rattle.desk_stream.specs.Window.{piece}
+use Rattle.desk_stream.specs.Window.{noRecord, piece}
 use Rattle.desk_stream.proofs.Pieces.{bad-short, piece-short}
 use Rattle.desk_stream.specs.Boxed.{unsoundNumber}
 use Rattle.host_tick.specs.Second.{secondOf}
@@ -51,6 +51,17 @@ unfolding kept allFit runBy
 fresh-box ring l =
     let s : sound fresh (length ring) ≡ true = run-sound ring l [] in
     boxed (kept fresh) (length ring) refl (ap (λ (x : Record). sound x (length ring)) (recorded-kept fresh) ∙ s)
+
+-- the number where no record reads is no reason number, and not 0
+pub no-reason : (r : Reason) → eqb (numberOf r) noRecord ≡ false
+no-reason n604 = refl
+no-reason n601 = refl
+no-reason n712 = refl
+no-reason n404 = refl
+no-reason n501 = refl
+no-reason n711 = refl
+no-reason n713 = refl
+no-reason n603 = refl
 
 -- with room for a line every text is whole: a bad record's, and that of any record with a reply that the desk would lend
 module _ (offset : ℕ) (lines : List ℕ) (room : lineRoom ≤ length lines) where

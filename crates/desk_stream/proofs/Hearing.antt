@@ -4,14 +4,16 @@ use mathlib.Core.Path.{_≡_, refl, sym, ap, _∙_}
 use mathlib.Core.Bool.{true, false}
 use mathlib.Core.List.{List, _++_}
 use native.Mathlib.Omega.{arith}
-use lib.ListN.{length, take, drop, length-drop}
+use lib.ListN.{length, take, drop, length-drop, List·getD-append}
 use lib.Seq.{drop-append-le, take-append-le}
 use Rattle.answers.specs.declared.Request.{Request}
 use Rattle.desk_records.specs.declared.Front.{Front}
 use Rattle.desk_records.specs.declared.Reading.{Reading}
 use Rattle.desk_records.specs.declared.Hearing.{Hearing}
 use Rattle.desk_records.specs.Hearing.{hearAt}
-use Rattle.desk_records.specs.Reading.{secondMark, lengthWidth, headOf, front, placed, readWith, readAt, cut, partOf}
+use Rattle.desk_kinds.specs.Numbers.{bigEndian}
+use Rattle.desk_records.proofs.Stands.{stands, whole}
+use Rattle.desk_records.specs.Reading.{secondMark, lengthWidth, lengthAt, lengthIn, headOf, front, placed, readWith, readAt, cut, partOf}
 use Rattle.desk_records.proofs.Stable.{front-stable}
 use Rattle.desk_records.proofs.Admits.{front-inside, whole-at, read-places}
 use Rattle.desk_records.proofs.Heard.{heard-record, heard-none}
@@ -61,6 +63,41 @@ asks-whole s (Front.Wrong fault i) e h = let z : _≡_ {A = ℕ} 0 1 = cc in abs
 
 pub heard-whole : (s : List ℕ) {k : ℕ} {q : Request} {given : List ℕ} {size : ℕ} → hears s ≡ calling k q given size → Whole s size
 heard-whole s h = asks-whole s (fronted s) refl (sym (heard-front s (fronted s) refl) ∙ h)
+
+-- ---- of the bytes behind it a record knows nothing
+module _ (u v : List ℕ) where
+  whole-alone : {k n : ℕ} → fronted (u ++ v) ≡ Front.Whole k n → headOf lengthWidth + n ≤ length u → fronted u ≡ Front.Whole k n
+  unfolding bigEndian
+  whole-alone {k} {n} e h =
+      let t = stands e in
+      let same : lengthIn lengthWidth (u ++ v) ≡ lengthIn lengthWidth u =
+      rw (drop-append-le lengthAt u v (omega arith), List·getD-append (drop lengthAt u) v 0 0 (simp length-drop (omega arith))) in
+      whole
+      record {
+        first = sym (List·getD-append u v 0 0 (omega arith)) ∙ t .first;
+        second = sym (List·getD-append u v 0 1 (omega arith)) ∙ t .second;
+        kind = sym (List·getD-append u v 0 2 (omega arith)) ∙ t .kind;
+        size = sym same ∙ t .size;
+        allowed = t .allowed;
+        inside = h;
+      }
+
+  uncut-alone : (f : Front) {k size : ℕ} {q : Request} {given : List ℕ} → fronted (u ++ v) ≡ f → hearsIn (u ++ v) f ≡ calling k q given size
+      → size ≤ length u → cut (fronted u) ≡ false
+  uncut-alone (Front.Whole k n) e h l = go (askingOf k (payloadOf (u ++ v) n)) h l
+    where
+      go : (a : Asking) {j size : ℕ} {q : Request} {given : List ℕ}
+          → hearsAs k (payloadOf (u ++ v) n) (headOf lengthWidth + n) a ≡ calling j q given size → size ≤ length u → cut (fronted u) ≡ false
+      go (Asking.Asks r) {j} {size} h l =
+          let long : headOf lengthWidth + n ≡ size = cc in
+          ap cut (whole-alone e (omega (arith, long)))
+      go Asking.Unlisted h l = let z : _≡_ {A = ℕ} 0 1 = cc in absurd (omega arith)
+  uncut-alone (Front.Wrong fault i) e h l = let z : _≡_ {A = ℕ} 0 1 = cc in absurd (omega arith)
+
+  pub heard-alone : {k size : ℕ} {q : Request} {given : List ℕ} → hears (u ++ v) ≡ calling k q given size → size ≤ length u
+      → hears u ≡ calling k q given size
+  heard-alone h l =
+      sym (heard-stable u v (uncut-alone (fronted (u ++ v)) refl (sym (heard-front (u ++ v) (fronted (u ++ v)) refl) ∙ h) l)) ∙ h
 
 -- ---- by what reading at a place answered
 module _ (s : List ℕ) (at : ℕ) where

@@ -38,18 +38,22 @@ printed-end : (box : State) (at : ℕ) → printed box (ends (badAt at)) ≡ bad
 unfolding printed runBy
 printed-end box at = refl
 
+-- a record, and then the rest behind it
+pub one-read : (at : ℕ) (s : List ℕ) (k : ℕ) (q : Request) (given : List ℕ) (size : ℕ) → 0 < length s → hears s ≡ calling k q given size → 0 < size
+    → readFrom 0 at s ≡ before k (deskCall q given) (readFrom 0 (at + size) (drop size s))
+one-read at [] k q given size h e g = absurd (omega arith)
+one-read at (b ∷ s) k q given zero h e g = absurd (omega arith)
+one-read at (b ∷ s) k q given (suc size) h e g =
+    let rest : suc size - 1 ≡ size = omega arith in
+    reads at b s (calling k q given (suc size)) e
+    ∙ ap (λ (n : ℕ). before k (deskCall q given) (readFrom n (at + suc size) s)) rest
+    ∙ ap (before k (deskCall q given)) (skipped size (at + suc size) s)
+
 pub one-more : (box : State) (at : ℕ) (s : List ℕ) (k : ℕ) (q : Request) (given : List ℕ) (size : ℕ) → 0 < length s
     → hears s ≡ calling k q given size → 0 < size
     → textFrom box at s ≡ lineFor k (step box (deskCall q given)) ++ textFrom (step box (deskCall q given) .state) (at + size) (drop size s)
-one-more box at [] k q given size h e g = absurd (omega arith)
-one-more box at (b ∷ s) k q given zero h e g = absurd (omega arith)
-one-more box at (b ∷ s) k q given (suc size) h e g =
-    let c = deskCall q given in
-    let rest : suc size - 1 ≡ size = omega arith in
-    ap (printed box) (reads at b s (calling k q given (suc size)) e)
-    ∙ printed-before box k c (readFrom (suc size - 1) (at + suc size) s)
-    ∙ ap (λ (n : ℕ). lineFor k (step box c) ++ printed (step box c .state) (readFrom n (at + suc size) s)) rest
-    ∙ ap (λ (i : Records). lineFor k (step box c) ++ printed (step box c .state) i) (skipped size (at + suc size) s)
+one-more box at s k q given size h e g =
+    ap (printed box) (one-read at s k q given size h e g) ∙ printed-before box k (deskCall q given) (readFrom 0 (at + size) (drop size s))
 
 pub one-bad : (box : State) (at : ℕ) (s : List ℕ) → 0 < length s → hears s ≡ wrong → textFrom box at s ≡ badText at
 one-bad box at [] h e = absurd (omega arith)

@@ -4,6 +4,7 @@ pub mod Hearing
 pub mod Pieces
 pub mod Turns
 pub mod Windows
+pub mod Answered
 pub mod Serving
 pub mod Boxing
 pub mod Keeping
