@@ -313,12 +313,6 @@ static void spoil(const struct lent *lent, uint16_t number)
     }
 }
 
-/* Nothing was answered, since the lines are too short. */
-static bool lacked_room(const struct lent *lent, uint16_t number)
-{
-    return number == BENCH_BOX_NO_ROOM && lent->progress->read == 0;
-}
-
 /* Some take last for something else. */
 static bool heard(bool last, bool performs, size_t input_length)
 {
@@ -361,7 +355,7 @@ static void withhold(const struct lent *lent, const uint8_t *line_before, uint16
 /* What is told in place of a number. */
 static uint16_t told(const struct lent *lent, bool performs, uint16_t number)
 {
-    bool no_room = lacked_room(lent, number);
+    bool no_room = number == BENCH_BOX_NO_ROOM && lent->progress->read == 0;
     switch (wrong()) {
     case room_accepted:
         return no_room && performs ? BENCH_BOX_ACCEPTED : number;
