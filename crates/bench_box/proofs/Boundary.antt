@@ -9,17 +9,15 @@ use lib.Dec.{eqb}
 use lib.ListN.{length, replicate}
 use lib.Seq.{take-all}
 use Rattle.rules.specs.declared.Record.{Record}
-use Rattle.rules.specs.Record.{fresh, sound}
+use Rattle.rules.specs.Record.{sound}
 use Rattle.rules.specs.Calls.{Reason, n604, n601, n712, n404, n501, n711, n713, n603, numberOf, State, report, Tick}
-use Rattle.rules.specs.Machine.{runBy}
-use Rattle.rules.specs.Promises.{Ringed}
-use Rattle.rules.proofs.Theorems.{refused-keeps, run-sound}
+use Rattle.rules.proofs.Theorems.{refused-keeps}
 use Rattle.answers.specs.Told.{stateOf}
 use Rattle.desk_text.specs.Put.{fitting}
 use Rattle.desk_line.specs.Line.{lineRoom}
 use Rattle.stored.specs.Stored.{wordCount, kept, recorded, allFit, isBox}
 use Rattle.stored.proofs.Back.{kept-recorded, recorded-kept}
-use Rattle.stored.proofs.Boxes.{box-fits, boxed, as-sound}
+use Rattle.stored.proofs.Boxes.{box-fits, as-sound}
 use Rattle.desk_stream.specs.Desk.{replyRoom, badText}
 use Rattle.desk_stream.specs.Window.{noRecord, piece}
 use Rattle.desk_stream.proofs.Pieces.{bad-short, piece-short}
@@ -44,13 +42,6 @@ pub left-again : (ws : List ℕ) (r : Record) (n : ℕ) → ws ≡ kept r → al
 left-again ws r n e f =
     let same : recorded ws ≡ r = ap recorded e ∙ recorded-kept r in
     (same, sym (as-sound ws n f refl refl) ∙ ap (λ (x : Record). sound x n) same)
-
--- a fresh box is one, with every ring that the paper has
-pub fresh-box : (ring : List ℕ) → Ringed ring → isBox (kept fresh) (length ring) ≡ true
-unfolding kept allFit runBy
-fresh-box ring l =
-    let s : sound fresh (length ring) ≡ true = run-sound ring l [] in
-    boxed (kept fresh) (length ring) refl (ap (λ (x : Record). sound x (length ring)) (recorded-kept fresh) ∙ s)
 
 -- the number where no record reads is no reason number, and not 0
 pub no-reason : (r : Reason) → eqb (numberOf r) noRecord ≡ false

@@ -20,6 +20,7 @@ use Rattle.desk_text.specs.Put.{fitting, overlaid}
 use Rattle.desk_line.specs.Line.{lineFor, lineOf, lineRoom}
 use Rattle.stored.specs.Stored.{kept, recorded, isBox}
 use Rattle.stored.proofs.Back.{recorded-kept}
+use Rattle.stored.proofs.Fresh.{fresh-box}
 use Rattle.desk_stream.specs.Desk.{Heard, calling, wrong, hears, callWith, readFrom, linesOf, badText}
 use Rattle.desk_stream.specs.Window.{Piece, noRecord, answeredBy, unheardIn, pieceOf, piece, repliedIn, outset, served}
 use Rattle.desk_stream.specs.Boxed.{boxIn, Came, unsoundNumber, noRoomNumber, asItWas, begun, windowed, serving, saying, performing}
@@ -33,7 +34,6 @@ use Rattle.bench_box.specs.Host.{tickNumber, tickWords, Left, flag, toHo
 use Rattle.bench_box.specs.Hosted.{HostCall, serves, performs, ticks, comes, Hosted, hosted-none, hosted-one, wordsLeft, ringLeft}
 use Rattle.bench_box.specs.Hosted.{readOf, askedIn, callsIn, callsOf, Unanswered, short, none-reads, badBehind}
 use Rattle.bench_box.specs.Hosted.{Told, in-lines, no-lines, by-number, not-at-all, by-tick, Follows, follows-none, follows-one}
-use Rattle.bench_box.proofs.Boundary.{fresh-box}
 
 -- the numbers of a box are the box
 same-box : (s : State) → boxIn (kept (s .box)) (s .bytes) ≡ s

@@ -7,5 +7,4 @@ pub mod Windows
 pub mod Answered
 pub mod Serving
 pub mod Boxing
-pub mod Keeping
 pub mod Progress

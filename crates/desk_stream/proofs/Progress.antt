@@ -1,13 +1,13 @@
 -- The desk never stands still: a window of 259 bytes holds a whole record or a bad one, and so does the last window.
 use Prim.Native.Nat.{ℕ, zero, suc, _+_, _-_, _≤_, _<_}
 use mathlib.Core.Path.{_≡_, refl, sym, ap, _∙_, subst}
-use mathlib.Core.Bool.{Bool, true, false, not, cond, _&&_, false≢true}
+use mathlib.Core.Bool.{Bool, true, false, not, cond, _&&_, true≢false, false≢true}
 use mathlib.Core.List.{List, [], _∷_}
 use native.Mathlib.Nat.{le-refl}
 use native.Mathlib.Omega.{arith}
-use lib.Dec.{eqb}
+use lib.Dec.{leb, eqb}
 use lib.ListN.{length, getD, drop}
-use borrow.Author.Tests.{le-leb}
+use borrow.Author.Tests.{leb-true, leb-false, le-leb}
 use Rattle.rules.specs.Calls.{State}
 use Rattle.rules.specs.Machine.{step}
 use Rattle.desk_records.specs.declared.Fault.{Fault}
@@ -19,6 +19,7 @@ use Rattle.desk_line.specs.Line.{lineRoom}
 use Rattle.desk_stream.specs.Desk.{Heard, calling, wrong, hears, deskCall}
 use Rattle.desk_stream.specs.Window.{waits, Progress, outset, roomy, served}
 use Rattle.desk_stream.proofs.Turns.{answered, broken, turns-on, turns-none, no-room, another, none}
+use Rattle.desk_stream.proofs.Answered.{window-rests}
 use Rattle.desk_stream.proofs.Hearing.{fronted, heard-whole}
 
 -- the longest record: its head and 255 bytes
@@ -81,9 +82,9 @@ module _ (base : ℕ) (last : Bool) (room : ℕ) where
   grows (b ∷ w) zero p = by-room p b w (λ skip q. grows w skip q) (roomy base last room p) refl
 
   -- a record was answered, or one was bad
-  pub data Moves (q : Progress) : Type 0 where
-    on : 0 < q .place → Moves q
-    over : q .ended ≡ true → Moves q
+  pub data Moves (p q : Progress) : Type 0 where
+    on : p .place < q .place → Moves p q
+    over : q .ended ≡ true → Moves p q
 
   -- the window is the last one, or long enough
   pub data Enough (w : List ℕ) : Type 0 where
@@ -100,20 +101,43 @@ module _ (base : ℕ) (last : Bool) (room : ℕ) where
       both false false f = refl
   waits-not w (long h) = ap (λ (c : Bool). c && not last) (never-cut w h)
 
-  module _ (box : State) (w : List ℕ) (r : lineRoom ≤ room) (some : 0 < length w) (e : Enough w) where
-    room-left : roomy base last room (outset box) ≡ true
-    room-left = le-leb (0 + lineRoom) room (omega arith)
-
-    by-what : (h : Heard) → hears w ≡ h → Moves (served base last room 0 (outset box) w)
+  module _ (p : Progress) (w : List ℕ) (r : roomy base last room p ≡ true) (some : 0 < length w) (e : Enough w) where
+    by-what : (h : Heard) → hears w ≡ h → Moves p (served base last room 0 p w)
     by-what (calling k q given size) h =
-        let p = answered k (step box (deskCall q given)) size (outset box) in
+        let p' = answered k (step (p .box) (deskCall q given)) size p in
         let s = heard-whole w h .some in
-        let same = another base last room (outset box) w some room-left k q given size h s in
-        on (subst (λ (x : Progress). 0 < x .place) (sym same) (omega (arith, grows (drop size w) 0 p)))
+        let same = another base last room p w some r k q given size h s in
+        on (subst (λ (x : Progress). p .place < x .place) (sym same) (omega (arith, grows (drop size w) 0 p')))
     by-what wrong h =
         over
-        (ap (λ (x : Progress). x .ended) (none base last room (outset box) w some room-left h)
-        ∙ ap (λ (b : Bool). cond b (outset box) (broken base (outset box)) .ended) (waits-not w e))
+        (ap (λ (x : Progress). x .ended) (none base last room p w some r h)
+        ∙ ap (λ (b : Bool). cond b p (broken base p) .ended) (waits-not w e))
 
-    pub never-stuck : Moves (served base last room 0 (outset box) w)
-    never-stuck = by-what (hears w) refl
+    pub moves-on : Moves p (served base last room 0 p w)
+    moves-on = by-what (hears w) refl
+
+  -- the room of a line is what `serve` asks for: with less it answers 603
+  pub never-stuck : (box : State) (w : List ℕ) → lineRoom ≤ room → 0 < length w → Enough w
+      → Moves (outset box) (served base last room 0 (outset box) w)
+  never-stuck box w r some e = moves-on (outset box) w (le-leb (0 + lineRoom) room (omega arith)) some e
+
+  module _ (box : State) (w : List ℕ) where
+    abbrev came : Progress
+    came = served base last room 0 (outset box) w
+
+    abbrev rest : List ℕ
+    rest = drop (came .place) w
+
+    stuck : came .ended ≡ false → Moves came (served base last room 0 came rest) → ⊥
+    stuck e (on h) = absurd (omega (arith, ap (λ (x : Progress). x .place) (window-rests base last room box w e)))
+    stuck e (over f) = absurd (true≢false (sym f ∙ ap (λ (x : Progress). x .ended) (window-rests base last room box w e) ∙ e))
+
+    -- so a window that wants more input, where a line has room, has less than a record's length left
+    pub little-left : came .ended ≡ false → roomy base last room came ≡ true → length rest < longest
+    little-left e r = go (leb longest (length rest)) refl
+      where
+        go : (b : Bool) → leb longest (length rest) ≡ b → length rest < longest
+        go true f =
+            let h = leb-true longest (length rest) f in
+            absurd (stuck e (moves-on came rest r (omega arith) (long h)))
+        go false f = leb-false longest (length rest) f

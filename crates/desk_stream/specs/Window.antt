@@ -3,7 +3,7 @@ use Prim.Native.Nat.{ℕ, zero, suc, _+_, _-_}
 use mathlib.Core.Bool.{Bool, true, false, not, _&&_, _||_, cond}
 use mathlib.Core.List.{List, [], _∷_, _++_}
 use lib.Dec.{leb}
-use lib.ListN.{length, take, drop}
+use lib.ListN.{length}
 use Rattle.rules.specs.Calls.{State, Outcome}
 use Rattle.rules.specs.Machine.{step}
 use Rattle.answers.specs.Asked.{asked, replied}
@@ -88,7 +88,3 @@ module _ (base : ℕ) (last : Bool) (room : ℕ) where
   served (suc skip) p (b ∷ s) = served skip p s
   served zero p (b ∷ s) =
       cond (roomy p) (turned p (piece replyRoom (base + p .place) last (p .box) (b ∷ s)) (λ skip q. served skip q s)) p
-
--- the bytes of a buffer that are read in but not answered yet
-abbrev pub unread : List ℕ → ℕ → ℕ → List ℕ
-unread buffer at held = take (held - at) (drop at buffer)

@@ -6,7 +6,7 @@ use stored::WORDS;
 ghost use mathlib.Core.Path.{_≡_};
 ghost use mathlib.Core.Bool.{true, false, not, cond};
 ghost use mathlib.Core.List.{[]};
-ghost use Prim.Native.Nat.{_+_, _-_, _≤_, min};
+ghost use Prim.Native.Nat.{_+_, _≤_};
 ghost use lib.ListN.{length, drop};
 ghost use Rattle.rules.specs.Machine.{step};
 ghost use Rattle.answers.specs.Asked.{asked, replied};
@@ -14,7 +14,7 @@ ghost use Rattle.desk_text.specs.Put.{Puts};
 ghost use Rattle.desk_line.specs.Line.{lineRoom};
 ghost use Rattle.stored.specs.Stored.{isBox};
 ghost use Rattle.desk_stream.specs.Desk.{replyRoom, hears, callWith, badLine, badText};
-ghost use Rattle.desk_stream.specs.Window.{noRecord, waits, answeredBy, piece, repliedIn, unread};
+ghost use Rattle.desk_stream.specs.Window.{noRecord, waits, answeredBy, piece, repliedIn};
 ghost use Rattle.desk_stream.specs.Held.{barredBy, Turns, Serves};
 ghost use Rattle.desk_stream.specs.Boxed.{boxIn, serving, performing};
 
@@ -278,35 +278,4 @@ pub fn perform(
         return refused(number);
     }
     turn(w, ring, reply, s, 0, offset, last, out, 0)
-}
-
-// What is left of `a`, 0 where `b` exceeds it.
-fn less(a: usize, b: usize) -> usize
-    ensures { λ n. ⌜ n ≡ a - b ⌝ }
-{
-    if b <= a { a - b } else { 0 }
-}
-
-// How many bytes stand from `at` to `held` in a buffer.
-fn count(len: usize, at: usize, held: usize) -> usize
-    ensures { λ n. ⌜ n ≡ min (held - at) (len - at) ⌝ }
-{
-    if held < len {
-        return less(held, at);
-    }
-    less(len, at)
-}
-
-// Moves the bytes from `at` to `held` to the front of a buffer, so that there is room behind them, and answers how many they are.
-pub fn keep(buf: &mut [u8], at: usize, held: usize) -> usize
-    ensures { λ n. ⌜ Puts (now (buf .entry)) 0 (unread (now (buf .entry)) at held) n (now (buf .exit)) ⌝ }
-    ensures { λ n. ⌜ n ≤ length (now (buf .exit)) ⌝ }
-{
-    let n = count(buf.len(), at, held);
-    let mut i: usize = 0;
-    while i < n {
-        buf[i] = buf[at + i];
-        i += 1;
-    }
-    n
 }

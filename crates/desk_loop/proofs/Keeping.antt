@@ -8,7 +8,7 @@ use lib.ListN.{length, getD, set, take, drop, length-take, length-drop, length-s
 use lib.Seq.{getD-drop, take-suc, take-all, drop-append-seam}
 use Rattle.desk_text.specs.Put.{Puts}
 use Rattle.desk_text.proofs.Putting.{put-none, put-one-fits, then, moved, whole-stands}
-use Rattle.desk_stream.specs.Window.{unread}
+use Rattle.desk_loop.specs.Loop.{unread}
 
 pub record Keeping (before : List ℕ) (at held : ℕ) (n i : ℕ) (now : List ℕ) : Type 0 where
   pub puts : Puts before 0 (take i (unread before at held)) i now

@@ -1,12 +1,12 @@
 -- The bytes go to the front one by one.
 use Prim.Native.Nat.{_-_}
 use borrow.Author.Needs.{needs}
-use Rattle.desk_stream.proofs.Keeping.{Keeping, keeping-begins, keeping-again, kept}
-use Rattle.desk_stream.proofs.keep.Statement.{statement}
-use Rattle.desk_stream.proofs.keep.Tie as tie
-use Rattle.desk_stream.proofs.keep.Reads as reads
-use Rattle.desk_stream.proofs.keep.Lts as lts
-use Rattle.desk_stream.proofs.count.Reads as count-reads
+use Rattle.desk_loop.proofs.Keeping.{Keeping, keeping-begins, keeping-again, kept}
+use Rattle.desk_loop.proofs.keep.Statement.{statement}
+use Rattle.desk_loop.proofs.keep.Tie as tie
+use Rattle.desk_loop.proofs.keep.Reads as reads
+use Rattle.desk_loop.proofs.keep.Lts as lts
+use Rattle.desk_loop.proofs.count.Reads as count-reads
 
 abbrev Inv-loop : tie.InvT-loop
 Inv-loop buf₀ at held n i₀ buf i = Keeping buf₀ at held n i buf
