@@ -7,8 +7,8 @@
  *
  * FILE is - for standard input. With seconds, the box's state at the end goes to standard error.
  *
- * The status is 0 where the shift is over, a bad record and a reader that has gone away included; 1 where lines cannot
- * be written or the box record is not sound; 2 where the host is called wrongly or cannot read the file.
+ * The status is 0 where the shift is over, a bad record and a reader that has gone away included; 1 where lines have no
+ * room or cannot be written, or the box record is not sound; 2 where it is called wrongly or cannot read the file.
  *
  *     gcc -std=c11 -O2 -Iinclude examples/host.c -L target/staticlib -lbench_box -o target/host
  */
@@ -68,6 +68,16 @@ static bool is_sound(struct host *host, uint16_t number)
 {
     if (number == BENCH_BOX_UNSOUND) {
         fail(host, BROKEN, "the box record", "not sound with the ring (604)");
+        return false;
+    }
+    return true;
+}
+
+/* A call with less room than a line takes answers 603 and reads nothing. A record that is refused by 603 is read. */
+static bool has_room(struct host *host, uint16_t number, const bench_box_progress *progress)
+{
+    if (number == BENCH_BOX_NO_ROOM && progress->read == 0) {
+        fail(host, BROKEN, "the lines", "less room than a line takes (603)");
         return false;
     }
     return true;
@@ -133,7 +143,7 @@ static void serve_window(struct host *host, bool last)
     do {
         uint16_t number = bench_box_serve(&host->box, host->ring, RING, host->window + at, host->held - at,
                                           host->offset + at, last, host->lines, LINES, &progress);
-        if (!is_sound(host, number)) {
+        if (!is_sound(host, number) || !has_room(host, number, &progress)) {
             return;
         }
         at += progress.read;
@@ -146,28 +156,22 @@ static void serve_window(struct host *host, bool last)
     drop_answered(host, at);
 }
 
-/* To perform, a record must be whole: four bytes of head, the last of them the payload's length, and the payload. */
-static bool is_whole(const uint8_t *front, size_t length)
-{
-    return length >= 4 && length - 4 >= front[3];
-}
-
 /* One record at a time, and seconds behind each. After the call a fetch's record stands in the reply. */
 static void perform_window(struct host *host, bool last, unsigned long ticks)
 {
     size_t at = 0;
-    while (!host->over && at < host->held && (last || is_whole(host->window + at, host->held - at))) {
+    while (!host->over && at < host->held) {
         bench_box_progress progress;
         uint16_t number = bench_box_perform(&host->box, host->ring, RING, host->reply, sizeof host->reply,
-                                            host->window + at, host->held - at, host->offset + at,
+                                            host->window + at, host->held - at, host->offset + at, last,
                                             host->lines + host->said, LINES - host->said, &progress);
-        if (!is_sound(host, number)) {
-            return;
+        if (!is_sound(host, number) || !has_room(host, number, &progress)) {
+            break;
         }
         at += progress.read;
         host->said += progress.written;
-        if (progress.ended) {
-            host->over = true;
+        if (number == BENCH_BOX_NO_RECORD) {
+            host->over = progress.ended != 0; /* a bad one ends the shift; one that is only cut waits for more input */
             break;
         }
         for (unsigned long i = 0; i < ticks && !host->over; i++) {

@@ -60,22 +60,30 @@ typedef struct bench_box {
 #define BENCH_BOX_REPLY_HEAD 4
 #define BENCH_BOX_REPLY_MOST 259
 
-/* No line is longer, and no record is answered into less room. */
+/* No line is longer, and no record is answered into less room: a call that is lent less for its lines is 603. */
 #define BENCH_BOX_LINE_MOST 640
 
 /* No call takes more of the stack. */
 #define BENCH_BOX_STACK_MOST 2048
 
-/* The numbers: 0 is acceptance, any other says why not. A refused call leaves all as it was, but for Load's 713. */
+/*
+ * The numbers: 0 is acceptance, any other says why not. A refused call leaves all as it was, but for Load's 713.
+ *
+ * 603 is told of two things. A desk record is refused by it where ring or reply lack room: that record is answered, and
+ * read is more than 0. And a call that is lent too little room for its lines answers nothing: read is 0.
+ */
 #define BENCH_BOX_ACCEPTED 0
 #define BENCH_BOX_WRONG_NAME 404    /* the name is not the present picture's, or no job is held */
 #define BENCH_BOX_WRONG_STATE 501   /* not in this state */
 #define BENCH_BOX_WRONG_VALUE 601   /* a value that is not listed */
-#define BENCH_BOX_NO_ROOM 603       /* more bytes than the ring has room for, or a reply under four bytes */
+#define BENCH_BOX_NO_ROOM 603       /* more bytes than the ring has room for; or a reply, or lines, too short */
 #define BENCH_BOX_UNSOUND 604       /* the box record is of another version, or not sound with the lent ring */
 #define BENCH_BOX_FEEDER_FAILED 711 /* the feeder is Erred */
 #define BENCH_BOX_WRONG_JOB 712     /* not the number of the job held */
 #define BENCH_BOX_NO_SHEET 713      /* no sheet in the tray; by Load the feeder is Unloaded, the rest kept */
+
+/* What bench_box_perform tells where no desk record reads at the front of its input. No desk record has this number. */
+#define BENCH_BOX_NO_RECORD 0xFFFF
 
 /*
  * Desk records: A5 5A, kind, length of the payload, payload. Below stand the payload's fields with their bytes. Numbers
@@ -120,16 +128,22 @@ uint16_t bench_box_tick(bench_box *box, size_t ring_length);
 
 /*
  * Answers the desk record at the front of the input, and puts its line. The result is the record's number: 0, or the
- * reason why it is refused. A fetch fills the lent reply.
+ * reason why it is refused. So 0 always means that a record is answered and accepted. A fetch fills the lent reply.
  *   - read is the record's length, and 0 where none is answered.
- *   - No whole record at the front (none at all, too): ended is 1, and the line is `bad` with the given offset. The
- *     input is taken to be all there is; where more may come, bench_box_serve with last false waits for it.
- *   - Less than BENCH_BOX_LINE_MOST bytes for the line: nothing is done, all three are 0.
- *   - 604: the record is no box record, or not sound with this ring. Nothing is done, all three are 0.
- * The result is 0 where no record is answered for another reason than 604.
+ *   - offset is the input's place in the whole input; a bad line counts from there. last says that no input follows.
+ *   - BENCH_BOX_NO_RECORD: no record reads at the front, and ended says which way.
+ *       ended 1: it is bad. A mark, a kind or a length is wrong; or it is cut, or there is no input at all, and last is
+ *       true. The line is `bad` with the offset, and the stream is over.
+ *       ended 0: it is only cut, and last is false. The bytes are right as far as they go, or there are none yet.
+ *       Nothing is done, all three are 0: call again with the same bytes and more behind them.
+ *     So a host performs a live input with last false whenever more has come, and a bad record is told at its first
+ *     wrong byte. BENCH_BOX_RECORD_MOST bytes are never only cut. An input that ends behind a record is not bad: a host
+ *     makes no call there.
+ *   - 603 with read 0: the line has less than BENCH_BOX_LINE_MOST bytes. Nothing is done, all three are 0.
+ *   - 604: the box is no box record, or not sound with this ring; before 603. Nothing is done, all three are 0.
  */
 uint16_t bench_box_perform(bench_box *box, uint8_t *ring, size_t ring_length, uint8_t *reply, size_t reply_length,
-                           const uint8_t *input, size_t input_length, uint64_t offset, uint8_t *line,
+                           const uint8_t *input, size_t input_length, uint64_t offset, bool last, uint8_t *line,
                            size_t line_length, bench_box_progress *progress);
 
 /*
@@ -138,7 +152,10 @@ uint16_t bench_box_perform(bench_box *box, uint8_t *ring, size_t ring_length, ui
  *   - offset is the window's place in the whole input; bad lines count from there. last says that no input follows.
  *   - Records that are not answered yet stand at input + read. A cut record waits for more input unless last is true.
  *   - ended is 1 once a bad record is met: the stream is over.
- * The result is 0; or 604: the record is no box record, or not sound with this ring; nothing is done, all three are 0.
+ * The result is 0, whatever the records' own numbers are, and for a bad record too; or, where nothing is done and all
+ * three are 0:
+ *   - 604: the box is no box record, or not sound with this ring.
+ *   - 603: the lines have less than BENCH_BOX_LINE_MOST bytes, whatever the input is. 604 comes before it.
  */
 uint16_t bench_box_serve(bench_box *box, uint8_t *ring, size_t ring_length, const uint8_t *input, size_t input_length,
                          uint64_t offset, bool last, uint8_t *lines, size_t lines_length,

@@ -1,6 +1,7 @@
 /*
  * What the header states, as a host meets it: sizes, every kind, number and state by its name, the reply's layout and how
- * the last bytes of a side are told, the stack, records that are none; and that no function writes outside the box record.
+ * the last bytes of a side are told, what is told where no record reads or a line has no room, the stack, box records that
+ * are none; and that no function writes outside the box record.
  */
 #define _DEFAULT_SOURCE
 
@@ -8,6 +9,7 @@
 
 #include <stdalign.h>
 #include <stdio.h>
+#include <stdlib.h>
 #include <string.h>
 #include <ucontext.h>
 
@@ -52,18 +54,69 @@ static bench_box box;
 static uint8_t ring[RING], reply[BENCH_BOX_REPLY_MOST];
 static char line[8 * BENCH_BOX_LINE_MOST];
 
+/* What the calls are given and answer. */
+static struct {
+    uint8_t input[BENCH_BOX_RECORD_MOST];
+    size_t length, reply_length, line_length;
+    uint64_t offset;
+    bool last;
+    bench_box_progress progress;
+    uint16_t number;
+} lent = {.reply_length = sizeof reply, .line_length = sizeof line, .last = true};
+
+/* Where they find it. */
+static struct {
+    bench_box *box;
+    uint8_t *ring, *reply, *input, *line;
+    bench_box_progress *progress;
+} at = {&box, ring, reply, lent.input, (uint8_t *)line, &lent.progress};
+
+static void *block(const void *from, size_t length)
+{
+    void *to = malloc(length);
+    if (to == NULL) {
+        puts("sizes: no memory");
+        exit(2);
+    }
+    return memcpy(to, from, length);
+}
+
+static void give_back(void *to, void *from, size_t length)
+{
+    memcpy(to, from, length);
+    free(from);
+}
+
+/* Each thing in a block of the heap, of its own length: memcheck tells what is touched beside it. */
+static void in_blocks(void (*call)(void))
+{
+    at.box = block(&box, sizeof box);
+    at.ring = block(ring, sizeof ring);
+    at.reply = block(reply, lent.reply_length);
+    at.input = block(lent.input, lent.length);
+    at.line = block(line, lent.line_length);
+    at.progress = block(&lent.progress, sizeof lent.progress);
+    call();
+    give_back(&box, at.box, sizeof box);
+    give_back(ring, at.ring, sizeof ring);
+    give_back(reply, at.reply, lent.reply_length);
+    give_back(lent.input, at.input, lent.length);
+    give_back(line, at.line, lent.line_length);
+    give_back(&lent.progress, at.progress, sizeof lent.progress);
+}
+
 /* Each call has a painted stack of its own; what is no longer painted afterwards, it took. */
 enum { PAINT = 0x5E, STACK = 65536 };
 static uint8_t stack[STACK];
 static size_t deepest;
-static bool plain; /* on the usual stack: memcheck does not know a painted one */
+static bool plain; /* on the usual stack and in blocks: memcheck does not know a painted one */
 static ucontext_t here, there;
 
 static void on_painted_stack(void (*call)(void))
 {
     size_t kept = 0;
     if (plain) {
-        call();
+        in_blocks(call);
         return;
     }
     memset(stack, PAINT, sizeof stack);
@@ -81,39 +134,31 @@ static void on_painted_stack(void (*call)(void))
     }
 }
 
-/* What the calls are given and answer. */
-static struct {
-    uint8_t input[BENCH_BOX_RECORD_MOST];
-    size_t length, reply_length;
-    bench_box_progress progress;
-    uint16_t number;
-} lent;
-
 static void call_perform(void)
 {
-    lent.number = bench_box_perform(&box, ring, RING, reply, lent.reply_length, lent.input, lent.length, 0,
-                                    (uint8_t *)line, sizeof line, &lent.progress);
+    lent.number = bench_box_perform(at.box, at.ring, RING, at.reply, lent.reply_length, at.input, lent.length, lent.offset,
+                                    lent.last, at.line, lent.line_length, at.progress);
 }
 
 static void call_serve(void)
 {
-    lent.number = bench_box_serve(&box, ring, RING, lent.input, lent.length, 0, true, (uint8_t *)line, sizeof line,
-                                  &lent.progress);
+    lent.number = bench_box_serve(at.box, at.ring, RING, at.input, lent.length, lent.offset, lent.last, at.line,
+                                  lent.line_length, at.progress);
 }
 
 static void call_tick(void)
 {
-    bench_box_tick(&box, RING);
+    bench_box_tick(at.box, RING);
 }
 
 static void call_fresh(void)
 {
-    bench_box_fresh(&box);
+    bench_box_fresh(at.box);
 }
 
 static void call_ask(void)
 {
-    bench_box_ask(&box, RING, BENCH_BOX_STORED);
+    bench_box_ask(at.box, RING, BENCH_BOX_STORED);
 }
 
 static unsigned digit(char hex)
@@ -187,7 +232,7 @@ static void shift(void)
                ask(BENCH_BOX_FEEDER_STATE) == BENCH_BOX_FEEDER_UNLOADED,
            "Side ended");
 
-    /* A reply too short for its head; two bytes of three; the last one. */
+    /* A reply too short for its head: the record's own 603, for it is read. Then two bytes of three; the last one. */
     expect(perform_with(BENCH_BOX_REPLY_HEAD - 1, BENCH_BOX_KIND_FETCH, "02" NAME_1) == BENCH_BOX_NO_ROOM &&
                reply[0] == GUARD,
            "a fetch into three bytes");
@@ -231,6 +276,96 @@ static void shift(void)
     expect(perform(BENCH_BOX_KIND_FETCH, "FF" NAME_2) == BENCH_BOX_WRONG_NAME, "a fetch after the end");
 }
 
+/* ---- where no record is answered */
+
+/* What stands at the front of an input: a whole record; right bytes that end too soon, or none; a wrong byte. */
+enum front { WHOLE, CUT, BAD };
+
+static const struct {
+    const char *hex;
+    enum front front;
+} inputs[] = {
+    {"A55A0700", WHOLE}, {"A55A070000", WHOLE}, {"", CUT},           {"A5", CUT},       {"A55A", CUT},
+    {"A55A07", CUT},     {"A55A2201", CUT},     {"A55A20FF41", CUT}, {"00", BAD},       {"0000FF", BAD},
+    {"A500", BAD},       {"A55A99", BAD},       {"A55A0701", BAD},   {"A55A2202", BAD}, {"A55A0600", BAD},
+};
+enum { INPUTS = sizeof inputs / sizeof inputs[0] };
+
+/* Calls with an input, this much room for the line, and with more input to come or not. */
+static void call_with(void (*call)(void), const char *hex, size_t room, bool last)
+{
+    lent.length = 0;
+    put_hex(hex);
+    lent.offset = 907;
+    lent.last = last;
+    lent.line_length = room;
+    lent.reply_length = sizeof reply;
+    lent.progress = (bench_box_progress){7, 7, 7};
+    memset(line, GUARD, sizeof line);
+    memset(reply, GUARD, sizeof reply);
+    on_painted_stack(call);
+    lent.offset = 0;
+    lent.last = true;
+    lent.line_length = sizeof line;
+}
+
+static bool is_kept(const void *bytes, size_t from, size_t length)
+{
+    const uint8_t *kept = bytes;
+    while (from < length && kept[from] == GUARD) {
+        from++;
+    }
+    return from == length;
+}
+
+/* The last call came to this; it put this text, and neither the reply nor the fresh box is another one. */
+static bool came_to(uint16_t number, size_t read, const char *text, size_t ended)
+{
+    size_t written = strlen(text);
+    bench_box fresh;
+    bench_box_fresh(&fresh);
+    return lent.number == number && lent.progress.read == read && lent.progress.written == written &&
+           lent.progress.ended == ended && memcmp(line, text, written) == 0 && is_kept(line, written, sizeof line) &&
+           is_kept(reply, 0, sizeof reply) && memcmp(&box, &fresh, sizeof box) == 0;
+}
+
+/* An input on both sides of a line's room. Serve tells a bad record by ended alone, and an input of no bytes is not bad. */
+static void answer_input(const char *hex, enum front front, bool last)
+{
+    bool bad = front == BAD || (front == CUT && last);
+    bool served_bad = bad && hex[0] != '\0';
+    const size_t short_rooms[] = {0, 1, BENCH_BOX_LINE_MOST - 1}, rooms[] = {BENCH_BOX_LINE_MOST, sizeof line};
+    for (size_t place = 0; place < sizeof short_rooms / sizeof short_rooms[0]; place++) {
+        call_with(call_perform, hex, short_rooms[place], last);
+        expect(came_to(BENCH_BOX_NO_ROOM, 0, "", 0), "perform into less than a line's room");
+        call_with(call_serve, hex, short_rooms[place], last);
+        expect(came_to(BENCH_BOX_NO_ROOM, 0, "", 0), "serve into less than a line's room");
+    }
+    for (size_t place = 0; place < sizeof rooms / sizeof rooms[0]; place++) {
+        call_with(call_perform, hex, rooms[place], last);
+        if (front == WHOLE) {
+            expect(came_to(BENCH_BOX_ACCEPTED, 4, "07 0 I U 0 1 0 none\n", 0), "perform of a whole record");
+            continue;
+        }
+        expect(came_to(BENCH_BOX_NO_RECORD, 0, bad ? "bad 907\n" : "", bad), "perform where no record reads");
+        call_with(call_serve, hex, rooms[place], last);
+        expect(came_to(BENCH_BOX_ACCEPTED, 0, served_bad ? "bad 907\n" : "", served_bad), "serve where no record reads");
+    }
+}
+
+static void no_record_answered(void)
+{
+    bench_box_fresh(&box);
+    for (size_t place = 0; place < INPUTS; place++) {
+        int before = failures;
+        answer_input(inputs[place].hex, inputs[place].front, false);
+        answer_input(inputs[place].hex, inputs[place].front, true);
+        if (failures > before) {
+            printf("sizes: this is with the input '%s'\n", inputs[place].hex);
+        }
+    }
+}
+
 /* A window of four records and a bad one, and the other functions, for the stack that they take. */
 static void other_functions(void)
 {
@@ -243,29 +378,39 @@ static void other_functions(void)
     expect(lent.progress.ended == 1 && ask(BENCH_BOX_STORED) == 2 && ask(BENCH_BOX_QUIET) == 1, "a window of five records");
 }
 
-/* What is no record: 604 by every call, no answer to a question, and nothing changes. */
-static void no_record(const bench_box *none, const char *name)
+static bool is_none(const bench_box_progress *progress)
+{
+    return progress->read == 0 && progress->written == 0 && progress->ended == 0;
+}
+
+/* What is no box record: 604 by every call, no answer to a question, and nothing changes. */
+static void no_box(const bench_box *none, const char *name)
 {
     const uint8_t record[] = {0xA5, 0x5A, 0x07, 0x00};
     uint8_t lines[BENCH_BOX_LINE_MOST] = {0};
-    bench_box_progress progress = {7, 7, 7};
     struct guarded g;
     int before = failures;
     memset(&g, GUARD, sizeof g);
     g.box = *none;
-    expect(bench_box_tick(&g.box, RING) == BENCH_BOX_UNSOUND, "tick of no record");
+    expect(bench_box_tick(&g.box, RING) == BENCH_BOX_UNSOUND, "tick of no box record");
     for (size_t question = 0; question <= BENCH_BOX_WORDS; question++) {
-        expect(bench_box_ask(&g.box, RING, question) == BENCH_BOX_NONE, "the answer about no record");
+        expect(bench_box_ask(&g.box, RING, question) == BENCH_BOX_NONE, "the answer about no box record");
     }
-    expect(bench_box_serve(&g.box, ring, RING, record, sizeof record, 0, true, lines, sizeof lines, &progress) ==
-               BENCH_BOX_UNSOUND,
-           "serve with no record");
-    expect(progress.read == 0 && progress.written == 0 && progress.ended == 0, "what serve with no record came to");
-    progress = (bench_box_progress){7, 7, 7};
-    expect(bench_box_perform(&g.box, ring, RING, reply, sizeof reply, record, sizeof record, 0, lines, sizeof lines,
-                             &progress) == BENCH_BOX_UNSOUND,
-           "perform with no record");
-    expect(progress.read == 0 && progress.written == 0 && progress.ended == 0, "what perform with no record came to");
+    /* Whatever the input is, none and a cut one too, and however short the line. */
+    for (size_t length = 0; length <= sizeof record; length++) {
+        for (size_t room = BENCH_BOX_LINE_MOST - 1; room <= BENCH_BOX_LINE_MOST; room++) {
+            bench_box_progress progress = {7, 7, 7};
+            expect(bench_box_serve(&g.box, ring, RING, record, length, 0, true, lines, room, &progress) ==
+                       BENCH_BOX_UNSOUND,
+                   "serve with no box record");
+            expect(is_none(&progress), "what serve with no box record came to");
+            progress = (bench_box_progress){7, 7, 7};
+            expect(bench_box_perform(&g.box, ring, RING, reply, sizeof reply, record, length, 0, true, lines, room,
+                                     &progress) == BENCH_BOX_UNSOUND,
+                   "perform with no box record");
+            expect(is_none(&progress), "what perform with no box record came to");
+        }
+    }
     expect(is_guarded(&g) && memcmp(&g.box, none, sizeof g.box) == 0, "604 changes the record");
     if (failures > before) {
         printf("sizes: this is with %s\n", name);
@@ -279,6 +424,7 @@ int main(int count, char **words)
     shift();
     deepest = 0; /* the first calls also bring memcpy in */
     shift();
+    no_record_answered();
     other_functions();
     expect(plain || (deepest > 0 && deepest <= BENCH_BOX_STACK_MOST), "the stack that a call takes");
     memset(&a, GUARD, sizeof a);
@@ -314,21 +460,36 @@ int main(int count, char **words)
     expect(bench_box_tick(&a.box, BENCH_BOX_RING_MOST + 1) == BENCH_BOX_UNSOUND, "tick with too long a ring");
     memset(&b.box, 0xFF, sizeof b.box);
     b.box.words[BENCH_BOX_VERSION] = BENCH_BOX_VERSION_NUMBER;
-    no_record(&b.box, "nonsense");
+    no_box(&b.box, "nonsense");
     const uint64_t versions[] = {0, BENCH_BOX_VERSION_NUMBER + 1, UINT64_C(1) << 32 | BENCH_BOX_VERSION_NUMBER, UINT64_MAX};
     for (size_t place = 0; place < sizeof versions / sizeof versions[0]; place++) {
         b.box = a.box;
         b.box.words[BENCH_BOX_VERSION] = versions[place];
-        no_record(&b.box, "another version");
+        no_box(&b.box, "another version");
     }
 
     /* NULL where the length is 0. */
     uint8_t lines[BENCH_BOX_LINE_MOST] = {0};
     bench_box_progress progress = {7, 7, 7};
-    expect(bench_box_serve(&a.box, ring, RING, NULL, 0, 0, true, NULL, 0, &progress) == 0 && progress.ended == 0,
+    expect(bench_box_serve(&a.box, ring, RING, NULL, 0, 0, true, NULL, 0, &progress) == BENCH_BOX_NO_ROOM &&
+               is_none(&progress),
+           "serve of nothing into nothing");
+    progress = (bench_box_progress){7, 7, 7};
+    expect(bench_box_serve(&a.box, ring, RING, NULL, 0, 0, true, lines, sizeof lines, &progress) == BENCH_BOX_ACCEPTED &&
+               is_none(&progress),
            "serve of nothing");
-    expect(bench_box_perform(&a.box, ring, RING, NULL, 0, NULL, 0, 0, lines, sizeof lines, &progress) == 0 &&
+    progress = (bench_box_progress){7, 7, 7};
+    expect(bench_box_perform(&a.box, ring, RING, NULL, 0, NULL, 0, 0, true, NULL, 0, &progress) == BENCH_BOX_NO_ROOM &&
+               is_none(&progress),
+           "perform of nothing into nothing");
+    progress = (bench_box_progress){7, 7, 7};
+    expect(bench_box_perform(&a.box, ring, RING, NULL, 0, NULL, 0, 0, false, lines, sizeof lines, &progress) ==
+                   BENCH_BOX_NO_RECORD &&
+               is_none(&progress),
+           "perform of nothing, where more may come");
+    expect(bench_box_perform(&a.box, ring, RING, NULL, 0, NULL, 0, 0, true, lines, sizeof lines, &progress) ==
+                   BENCH_BOX_NO_RECORD &&
                progress.ended == 1 && progress.written == 6 && memcmp(lines, "bad 0\n", 6) == 0,
-           "perform of nothing");
+           "perform of nothing, where no more comes");
     return failures != 0;
 }

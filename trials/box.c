@@ -315,7 +315,7 @@ static void give_back(const struct operation *operation, const size_t *lengths, 
 static const uint64_t layout[] = {
     BENCH_BOX_VERSION_NUMBER, BENCH_BOX_WORDS, BENCH_BOX_SIZE, BENCH_BOX_ALIGN, BENCH_BOX_RING_MOST,
     BENCH_BOX_REPLY_HEAD, BENCH_BOX_REPLY_MOST, BENCH_BOX_LINE_MOST, BENCH_BOX_RECORD_HEAD, BENCH_BOX_RECORD_MOST,
-    BENCH_BOX_NONE,
+    BENCH_BOX_NONE, BENCH_BOX_NO_RECORD,
     /* what the compiler makes of it */
     sizeof(bench_box), _Alignof(bench_box), sizeof(bench_box_progress), offsetof(bench_box_progress, read),
     offsetof(bench_box_progress, written), offsetof(bench_box_progress, ended),
@@ -372,7 +372,8 @@ static uint16_t call(const struct operation *operation, uint8_t *const *at)
         return bench_box_tick(box, ring_length);
     case PERFORM:
         return bench_box_perform(box, at[RING], ring_length, at[REPLY], operation->reply_length, at[INPUT],
-                                 operation->input_length, operation->offset, at[LINES], operation->lines_length, told);
+                                 operation->input_length, operation->offset, operation->last != 0, at[LINES],
+                                 operation->lines_length, told);
     case SERVE:
         return bench_box_serve(box, at[RING], ring_length, at[INPUT], operation->input_length, operation->offset,
                                operation->last != 0, at[LINES], operation->lines_length, told);

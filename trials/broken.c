@@ -41,7 +41,21 @@
     X(destination_wrap)   /* DestinationID 4,294,967,295 goes to 1 */                                                  \
     X(far_offset)         /* bad lines beyond 2^32 are off by one */                                                   \
     X(lower_case)         /* a hex digit in lower case */                                                              \
-    X(not_last)           /* last is not heeded */                                                                     \
+    X(not_last)           /* last is not heeded by serve */                                                            \
+    X(room_accepted)      /* perform tells 0 for a line too short */                                                   \
+    X(serve_stands)       /* serve tells 0 for lines too short */                                                      \
+    X(empty_stands)       /* serve of no input tells 0 for lines too short */                                          \
+    X(room_first)         /* 603 comes before 604 */                                                                   \
+    X(room_read)          /* 603 for lines too short leaves ended at 1 */                                              \
+    X(room_639)           /* a line is answered into 639 bytes */                                                      \
+    X(room_641)           /* a line is not answered into 640 bytes */                                                  \
+    X(unread_accepted)    /* perform tells 0 where no record reads */                                                  \
+    X(served_unread)      /* serve tells that no record reads */                                                       \
+    X(cut_is_bad)         /* perform takes a cut record for bad while more may come */                                 \
+    X(none_is_bad)        /* perform takes no input for bad while more may come */                                     \
+    X(bad_waits)          /* perform withholds a bad record while more may come */                                     \
+    X(length_waits)       /* so it does while fewer bytes are there than its fourth says */                            \
+    X(cut_waits)          /* perform withholds a cut record where no input follows */                                  \
     X(first_after_fetch)  /* the first GetState after a fetch is refused */                                            \
     X(static_state)       /* the 20,000th call of all boxes changes a word */                                          \
     X(null_input)         /* a NULL input is answered by nothing */                                                    \
@@ -294,35 +308,117 @@ static void spoil(const struct lent *lent, uint16_t number)
     }
     spoil_text(lent);
     spoil_memory(lent, number);
-    if (wrong() == null_input && lent->input == NULL && number == 0) {
+    if (wrong() == null_input && lent->input == NULL && number == BENCH_BOX_NO_RECORD) {
         *lent->progress = (bench_box_progress){0, 0, 0};
     }
 }
 
-uint16_t broken_perform(bench_box *box, uint8_t *ring, size_t ring_length, uint8_t *reply, size_t reply_length,
-                        const uint8_t *input, size_t input_length, uint64_t offset, uint8_t *line, size_t line_length,
-                        bench_box_progress *progress)
+/* Some take last for something else. */
+static bool heard(bool last, bool performs, size_t input_length)
 {
+    switch (wrong()) {
+    case not_last:
+        return last && performs;
+    case cut_waits:
+        return last && !performs;
+    case cut_is_bad:
+        return last || (performs && input_length > 0);
+    case none_is_bad:
+        return last || (performs && input_length == 0);
+    default:
+        return last;
+    }
+}
+
+/* The room that a box with another test of it would have, where the lines have this much. */
+static size_t room_for(size_t lines_length)
+{
+    if (wrong() == room_639 && lines_length == BENCH_BOX_LINE_MOST - 1) {
+        return BENCH_BOX_LINE_MOST;
+    }
+    if (wrong() == room_641 && lines_length == BENCH_BOX_LINE_MOST) {
+        return BENCH_BOX_LINE_MOST - 1;
+    }
+    return lines_length;
+}
+
+/* A bad record is not told, though it is met. */
+static void withhold(const struct lent *lent, const uint8_t *line_before, uint16_t number)
+{
+    bool is_whole = lent->input_length >= 4 && lent->input_length - 4 >= lent->input[3];
+    if (number == BENCH_BOX_NO_RECORD && (wrong() == bad_waits || (wrong() == length_waits && !is_whole))) {
+        memcpy(lent->lines, line_before, lent->progress->written);
+        *lent->progress = (bench_box_progress){0, 0, 0};
+    }
+}
+
+/* What is told in place of a number. */
+static uint16_t told(const struct lent *lent, bool performs, uint16_t number)
+{
+    bool no_room = number == BENCH_BOX_NO_ROOM && lent->progress->read == 0;
+    switch (wrong()) {
+    case room_accepted:
+        return no_room && performs ? BENCH_BOX_ACCEPTED : number;
+    case serve_stands:
+        return no_room && !performs ? BENCH_BOX_ACCEPTED : number;
+    case empty_stands:
+        return no_room && !performs && lent->input_length == 0 ? BENCH_BOX_ACCEPTED : number;
+    case room_first:
+        return lent->lines_length < BENCH_BOX_LINE_MOST ? BENCH_BOX_NO_ROOM : number;
+    case room_read:
+        lent->progress->ended |= no_room;
+        return number;
+    case unread_accepted:
+        return number == BENCH_BOX_NO_RECORD ? BENCH_BOX_ACCEPTED : number;
+    case served_unread:
+        return !performs && number == 0 && lent->progress->ended ? BENCH_BOX_NO_RECORD : number;
+    default:
+        return number;
+    }
+}
+
+uint16_t broken_perform(bench_box *box, uint8_t *ring, size_t ring_length, uint8_t *reply, size_t reply_length,
+                        const uint8_t *input, size_t input_length, uint64_t offset, bool last, uint8_t *line,
+                        size_t line_length, bench_box_progress *progress)
+{
+    static uint8_t longer[BENCH_BOX_LINE_MOST], before[BENCH_BOX_LINE_MOST];
+    size_t room = room_for(line_length);
     loosen(box);
     const struct lent lent = {box,          *box,   ring, ring_length, reply,    reply_length, input,
                               input_length, offset, line, line_length, progress, *progress};
-    uint16_t number = bench_box_perform(box, ring, ring_length, reply, reply_length, input, input_length, offset, line,
-                                        line_length, progress);
+    if (line_length >= sizeof before) {
+        memcpy(before, line, sizeof before);
+    }
+    uint16_t number =
+        bench_box_perform(box, ring, ring_length, reply, reply_length, input, input_length, offset,
+                          heard(last, true, input_length), room > line_length ? longer : line, room, progress);
+    if (room > line_length) {
+        memcpy(line, longer, progress->written);
+    }
+    if (!last) {
+        withhold(&lent, before, number);
+    }
     spoil(&lent, number);
-    return number;
+    return told(&lent, true, number);
 }
 
 uint16_t broken_serve(bench_box *box, uint8_t *ring, size_t ring_length, const uint8_t *input, size_t input_length,
                       uint64_t offset, bool last, uint8_t *lines, size_t lines_length, bench_box_progress *progress)
 {
+    static uint8_t longer[BENCH_BOX_LINE_MOST];
     uint8_t none[2] = {0, 0};
+    size_t room = room_for(lines_length);
     loosen(box);
     const struct lent lent = {box,          *box,   ring,  ring_length,  none + 1, 0,        input,
                               input_length, offset, lines, lines_length, progress, *progress};
-    uint16_t number = bench_box_serve(box, ring, ring_length, input, input_length, offset, last && wrong() != not_last,
-                                      lines, lines_length, progress);
+    uint16_t number =
+        bench_box_serve(box, ring, ring_length, input, input_length, offset, heard(last, false, input_length),
+                        room > lines_length ? longer : lines, room, progress);
+    if (room > lines_length) {
+        memcpy(lines, longer, progress->written);
+    }
     spoil(&lent, number);
-    return number;
+    return told(&lent, false, number);
 }
 
 uint64_t broken_ask(const bench_box *box, size_t ring_length, size_t question)

@@ -24,7 +24,7 @@ impl Bench for proved::Box {
     }
 
     fn perform(&mut self, ring: &mut [u8], reply: &mut [u8], input: &[u8], line: &mut [u8]) -> u16 {
-        proved::Box::perform(self, ring, reply, input, 0, line).0
+        proved::Box::perform(self, ring, reply, input, 0, true, line).0
     }
 
     fn serve(&mut self, ring: &mut [u8], input: &[u8], offset: u64, last: bool, lines: &mut [u8]) -> (usize, usize) {
@@ -46,7 +46,7 @@ impl Bench for peer::Record {
 
     #[inline(never)]
     fn perform(&mut self, ring: &mut [u8], reply: &mut [u8], input: &[u8], line: &mut [u8]) -> u16 {
-        let (number, progress) = peer::perform(self, ring, reply, input, 0, line);
+        let (number, progress) = peer::perform(self, ring, reply, input, 0, true, line);
         black_box(progress);
         number
     }
@@ -65,12 +65,12 @@ pub struct ByWords([u64; peer::WORDS]);
 
 impl ByWords {
     /// What a call gives for words that are no record, as for a record that is not sound.
-    const NO_RECORD: u16 = peer::Reason::Unsound as u16;
+    const UNSOUND: u16 = peer::Reason::Unsound as u16;
 
     #[inline(always)]
-    fn call<T>(&mut self, no_record: T, call: impl FnOnce(&mut peer::Record) -> T) -> T {
+    fn call<T>(&mut self, unsound: T, call: impl FnOnce(&mut peer::Record) -> T) -> T {
         let Some(mut record) = peer::Record::from_words(&self.0) else {
-            return no_record;
+            return unsound;
         };
         let answer = call(&mut record);
         self.0 = record.to_words();
@@ -85,13 +85,13 @@ impl Bench for ByWords {
 
     #[inline(never)]
     fn tick(&mut self, ring_length: usize) -> u16 {
-        self.call(ByWords::NO_RECORD, |record| peer::tick(record, ring_length))
+        self.call(ByWords::UNSOUND, |record| peer::tick(record, ring_length))
     }
 
     #[inline(never)]
     fn perform(&mut self, ring: &mut [u8], reply: &mut [u8], input: &[u8], line: &mut [u8]) -> u16 {
-        self.call(ByWords::NO_RECORD, |record| {
-            let (number, progress) = peer::perform(record, ring, reply, input, 0, line);
+        self.call(ByWords::UNSOUND, |record| {
+            let (number, progress) = peer::perform(record, ring, reply, input, 0, true, line);
             black_box(progress);
             number
         })

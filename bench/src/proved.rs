@@ -32,6 +32,7 @@ pub mod c {
             input: *const u8,
             input_length: usize,
             offset: u64,
+            last: bool,
             line: *mut u8,
             line_length: usize,
             progress: *mut Progress,
@@ -70,6 +71,7 @@ impl Box {
         reply: &mut [u8],
         input: &[u8],
         offset: u64,
+        last: bool,
         line: &mut [u8],
     ) -> (u16, Progress) {
         let mut p = Progress::default();
@@ -83,6 +85,7 @@ impl Box {
                 input.as_ptr(),
                 input.len(),
                 offset,
+                last,
                 line.as_mut_ptr(),
                 line.len(),
                 &mut p,

@@ -112,7 +112,7 @@ fn control(records: &mut Records) -> io::Result<()> {
     let (mut ring, mut reply, mut line) = ([0; RING], [0; REPLY], [0; LINE]);
     while records.left > 0 {
         let bytes = control_record(&mut dice, along.job);
-        peer::perform(&mut along, &mut ring, &mut reply, &bytes, 0, &mut line);
+        peer::perform(&mut along, &mut ring, &mut reply, &bytes, 0, true, &mut line);
         records.put(&bytes)?;
     }
     Ok(())

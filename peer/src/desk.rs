@@ -23,6 +23,9 @@ impl Progress {
     const NONE: Progress = Progress { read: 0, written: 0, ended: false };
 }
 
+/// The number of `perform` where no record reads at the front of the input: no reason number of the paper, and not 0.
+pub const NO_RECORD: u16 = 0xFFFF;
+
 /// "A second is a Tick": 0, or 604 and nothing changes.
 #[inline(always)]
 pub fn tick(record: &mut Record, ring_length: usize) -> u16 {
@@ -33,10 +36,12 @@ pub fn tick(record: &mut Record, ring_length: usize) -> u16 {
     0
 }
 
-/// Answers the desk record at the front of the input and puts its line. The result is the record's number.
+/// Answers the desk record at the front of the input and puts its line. The result is the record's number, so 0 means
+/// that a record is answered and accepted.
 ///
-/// Where the front holds no whole record, it is bad. Into a line of less than `LINE_MOST` bytes nothing is answered. A
-/// record that is not sound with the ring is 604, and nothing is done.
+/// A record that is not sound with the ring is 604; then a line of less than `LINE_MOST` bytes is 603; nothing is done.
+/// Where no record reads, the result is `NO_RECORD`: it is bad, and ended; or it is only cut and this input is not the
+/// last, and nothing is done until more comes.
 #[inline(always)]
 pub fn perform(
     record: &mut Record,
@@ -44,16 +49,18 @@ pub fn perform(
     reply: &mut [u8],
     input: &[u8],
     offset: u64,
+    last: bool,
     line: &mut [u8],
 ) -> (u16, Progress) {
     if !record.is_sound(ring.len()) {
         return (Reason::Unsound.number(), Progress::NONE);
     }
     let Some(line) = line.first_chunk_mut() else {
-        return (0, Progress::NONE);
+        return (Reason::Room.number(), Progress::NONE);
     };
-    let Reading::Record { kind, payload, next } = wire::read(input, 0) else {
-        return (0, Progress { read: 0, written: put_bad(line, offset), ended: true });
+    let reading = wire::read(input, 0);
+    let Reading::Record { kind, payload, next } = reading else {
+        return (NO_RECORD, unread(reading, offset, last, line));
     };
     let mut lent = Lent { record, ring, reply };
     let answer = rules::call(&mut lent, kind, payload);
@@ -66,7 +73,8 @@ pub fn perform(
 /// window's beginning is a test for each of its records.
 ///
 /// The offset is the window's place in the whole input. A cut record waits for more input unless this window is the
-/// last one. The result is 0; or 604, and nothing is done.
+/// last one. The result is 0; or 604; or 603 where the lines have less than `LINE_MOST` bytes, whatever the input is.
+/// With 604 and 603 nothing is done.
 pub fn serve(
     record: &mut Record,
     ring: &mut [u8],
@@ -78,6 +86,9 @@ pub fn serve(
     if !record.is_sound(ring.len()) {
         return (Reason::Unsound.number(), Progress::NONE);
     }
+    if lines.len() < LINE_MOST {
+        return (Reason::Room.number(), Progress::NONE);
+    }
     let mut lent = Lent { record, ring, reply: &mut [0; DESK_REPLY] };
     let mut progress = Progress::NONE;
     while progress.read < input.len() {
@@ -86,11 +97,9 @@ pub fn serve(
         };
         let reading = wire::read(input, progress.read);
         let Reading::Record { kind, payload, next } = reading else {
-            if !last && matches!(reading, Reading::Cut { .. }) {
-                break;
-            }
-            progress.written += put_bad(line, offset.wrapping_add(progress.read as u64));
-            progress.ended = true;
+            let stop = unread(reading, offset.wrapping_add(progress.read as u64), last, line);
+            progress.written += stop.written;
+            progress.ended = stop.ended;
             break;
         };
         let answer = rules::call(&mut lent, kind, payload);
@@ -98,4 +107,13 @@ pub fn serve(
         progress.read = next;
     }
     (0, progress)
+}
+
+/// Where no record reads: what is only cut waits, unless no input follows; all else is bad.
+#[cold]
+fn unread(reading: Reading, offset: u64, last: bool, line: &mut [u8; LINE_MOST]) -> Progress {
+    if !last && matches!(reading, Reading::Cut { .. }) {
+        return Progress::NONE;
+    }
+    Progress { read: 0, written: put_bad(line, offset), ended: true }
 }

@@ -11,7 +11,7 @@ mod rules;
 mod text;
 mod wire;
 
-pub use desk::{perform, serve, tick, Progress};
+pub use desk::{perform, serve, tick, Progress, NO_RECORD};
 pub use record::{FailureCode, FeederState, Granted, Record, ScanState, NAMES, RING_MOST, VERSION, WORDS};
 pub use rules::Reason;
 pub use text::LINE_MOST;

@@ -159,11 +159,11 @@ pub enum Reading<'a> {
     },
 }
 
-/// The record at a place. The payload is a part of the input. At or past the end is bad.
+/// The record at a place. The payload is a part of the input. At or past the end nothing is wrong yet: it is cut.
 #[inline]
 pub fn read(input: &[u8], place: usize) -> Reading<'_> {
     let Some(rest) = input.get(place..) else {
-        return Reading::Bad { place };
+        return Reading::Cut { place };
     };
     let Some(&[mark, mark_end, kind, length]) = rest.first_chunk::<HEAD>() else {
         return read_short_head(rest, place);
@@ -178,10 +178,11 @@ pub fn read(input: &[u8], place: usize) -> Reading<'_> {
     Reading::Record { kind, payload, next: place + end }
 }
 
-/// Fewer than four bytes: cut where there are some and they are right so far.
+/// Fewer than four bytes, or none: cut where they are right so far.
 #[cold]
 fn read_short_head(rest: &[u8], place: usize) -> Reading<'_> {
     let right_so_far = match *rest {
+        [] => true,
         [mark] => mark == MARK[0],
         [mark, mark_end] => [mark, mark_end] == MARK,
         [mark, mark_end, kind] => [mark, mark_end] == MARK && is_listed(kind),

@@ -4,7 +4,7 @@
 mod common;
 
 use common::*;
-use peer::{kind, perform, FeederState, Granted, Progress, Record, ScanState, LINE_MOST};
+use peer::{kind, FeederState, Granted, Progress, Record, ScanState, LINE_MOST, NO_RECORD};
 
 const NAME: &str = "J0000000001001.jpg";
 
@@ -99,10 +99,13 @@ fn replies_of_3_4_and_more_bytes() {
     assert_eq!(bench.reply, [0xA5, 0x5A, 0x06, 0x01, b'c', 0xDD, 0xDD, 0xDD]);
 }
 
+/// What a call came to that answers nothing.
+const NOTHING: Progress = Progress { read: 0, written: 0, ended: false };
+
 #[test]
 fn unsound_records_are_604_and_nothing_is_done() {
     let fresh = Record::fresh();
-    for mut record in [
+    for record in [
         Record { job: 1, last_job: 1, ..fresh },
         Record { side_number: 2, ..fresh },
         Record { quiet: 1, ..fresh },
@@ -113,22 +116,19 @@ fn unsound_records_are_604_and_nothing_is_done() {
         Record { stored: 1, ..fresh },
         Record { feeder: FeederState::Busy, ..fresh },
     ] {
-        let before = record;
+        let mut bench = Bench { record, ..Bench::desk() };
+        let Bench { ring, reply, .. } = bench.clone();
+        let mut line = [3; LINE_MOST];
         assert!(!record.is_sound(4096));
-        assert_eq!(peer::tick(&mut record, 4096), 604);
-        let (mut ring, mut reply, mut line) = ([1; 4096], [2; 259], [3; LINE_MOST]);
-        let nothing = Progress { read: 0, written: 0, ended: false };
+        assert_eq!(peer::tick(&mut bench.record, 4096), 604);
         // Bad input, no input and no room make no difference.
         for (input, room) in [(&tick()[..], LINE_MOST), (&b"bad"[..], LINE_MOST), (&b""[..], LINE_MOST), (&tick(), 1)] {
-            let answer = perform(&mut record, &mut ring, &mut reply, input, 0, &mut line[..room]);
-            assert_eq!(answer, (604, nothing));
             for last in [false, true] {
-                let answer = peer::serve(&mut record, &mut ring, input, 0, last, &mut line[..room]);
-                assert_eq!(answer, (604, nothing));
+                assert_eq!(bench.perform(input, 0, last, &mut line[..room]), (604, NOTHING));
+                assert_eq!(bench.serve(input, 0, last, &mut line[..room]), (604, NOTHING));
             }
         }
-        assert_eq!(record, before);
-        assert!(ring.iter().all(|&byte| byte == 1) && reply.iter().all(|&byte| byte == 2));
+        assert_eq!((bench.record, bench.ring, bench.reply), (record, ring, reply));
         assert!(line.iter().all(|&byte| byte == 3));
     }
     for (length, sound) in [(0, false), (1, true), (65_536, true), (65_537, false), (usize::MAX, false)] {
@@ -143,56 +143,70 @@ fn unsound_records_are_604_and_nothing_is_done() {
 fn room_for_a_line() {
     let mut bench = Bench::desk();
     let mut line = [0; LINE_MOST];
-    let nothing = Progress { read: 0, written: 0, ended: false };
-    for input in [&tick()[..], b"", b"bad"] {
-        let short = &mut line[..LINE_MOST - 1];
-        assert_eq!(perform(&mut bench.record, &mut bench.ring, &mut bench.reply, input, 0, short), (0, nothing));
-        assert_eq!(peer::serve(&mut bench.record, &mut bench.ring, input, 0, true, short), (0, nothing));
+    // Whole, none, bad, cut: less room than a line takes is 603, and nothing is done.
+    for input in [&tray(1)[..], b"", b"bad", b"\xA5\x5A\x24"] {
+        for (room, last) in [0, 1, LINE_MOST - 1].into_iter().flat_map(|room| [(room, false), (room, true)]) {
+            let short = &mut line[..room];
+            assert_eq!(bench.perform(input, 0, last, short), (603, NOTHING));
+            assert_eq!(bench.serve(input, 0, last, short), (603, NOTHING));
+        }
     }
     assert!(line.iter().all(|&byte| byte == 0));
+    assert_eq!(bench.record, Record::fresh());
+    // Room for a line is enough, and for as many records as there are lines.
+    let one = Progress { read: 5, written: 17, ended: false };
+    assert_eq!(bench.perform(&tray(1), 0, false, &mut line), (0, one));
+    assert_eq!(bench.serve(&tray(1).repeat(2), 0, false, &mut line), (0, one));
+    assert_eq!(bench.serve(b"", 0, false, &mut line), (0, NOTHING));
+    // A record's own 603 is answered.
+    let mut bench = Bench::new(1, 0);
+    bench.accept(&[tray(1), start_scan(1, 1, 1, 0)]);
+    let own = Progress { read: 6, written: 19, ended: false };
+    assert_eq!(bench.perform(&bytes(b"ab"), 0, true, &mut line), (603, own));
 }
 
 #[test]
-fn bad_records_in_perform_and_serve() {
+fn where_no_record_reads() {
     let mut bench = Bench::desk();
-    for input in [&b""[..], b"\xA5", b"\xA5\x5A\x24", b"\xA5\x5A\x20\x02a", b"\x00\x00\x00\x00"] {
+    let cut = [
+        &b""[..],
+        b"\xA5",
+        b"\xA5\x5A",
+        b"\xA5\x5A\x01",
+        b"\xA5\x5A\x01\x06",
+        b"\xA5\x5A\x01\x06\x01\x02\x03\x04\x05",
+        b"\xA5\x5A\x20\x02a",
+    ];
+    let bad = [
+        &b"\x5A"[..],
+        b"\x00\x00\x00\x00",
+        b"\xA5\xA5",
+        b"\xA5\x5A\x09",
+        b"\xA5\x5A\x01\x05",
+        b"\xA5\x5A\x06\x00",
+        b"\xA5\x5A\x24\x01",
+    ];
+    let all = cut.map(|input| (input, true)).into_iter().chain(bad.map(|input| (input, false)));
+    for ((input, is_cut), last) in all.flat_map(|one| [(one, false), (one, true)]) {
         for (offset, text) in [(0, "bad 0\n"), (10, "bad 10\n"), (u64::MAX, "bad 18446744073709551615\n")] {
             let mut line = [0; 700];
-            let bad = Progress { read: 0, written: text.len(), ended: true };
-            let answer = perform(&mut bench.record, &mut bench.ring, &mut bench.reply, input, offset, &mut line);
-            assert_eq!(answer, (0, bad));
-            assert_eq!(&line[..text.len()], text.as_bytes());
-            // At the end of a window there is nothing to be bad.
-            let answer = peer::serve(&mut bench.record, &mut bench.ring, input, offset, true, &mut line);
-            let expected = if input.is_empty() { Progress { read: 0, written: 0, ended: false } } else { bad };
-            assert_eq!(answer, (0, expected));
+            // What is only cut waits where more input may come.
+            let text = if is_cut && !last { "" } else { text };
+            let came = Progress { read: 0, written: text.len(), ended: !text.is_empty() };
+            assert_eq!(bench.perform(input, offset, last, &mut line), (NO_RECORD, came), "{input:02X?}");
+            assert!(line.starts_with(text.as_bytes()) && line[text.len()..].iter().all(|&byte| byte == 0));
+            // Serve says it by ended alone. At the end of a window there is nothing to be bad.
+            let came = if input.is_empty() { NOTHING } else { came };
+            let mut lines = [0; 700];
+            assert_eq!(bench.serve(input, offset, last, &mut lines), (0, came), "{input:02X?}");
+            assert!(input.is_empty() || lines == line);
         }
     }
+    assert_eq!(bench.record, Record::fresh());
     // Offsets go round.
     let mut line = [0; 2 * LINE_MOST];
     let input = [tick(), b"bad".to_vec()].concat();
-    let (number, progress) = peer::serve(&mut bench.record, &mut bench.ring, &input, u64::MAX, false, &mut line);
+    let (number, progress) = bench.serve(&input, u64::MAX, false, &mut line);
     assert_eq!((number, progress), (0, Progress { read: 4, written: 17 + 6, ended: true }));
     assert_eq!(&line[..progress.written], b"24 0 I U 0 1 0 -\nbad 3\n");
-}
-
-#[test]
-fn what_waits_for_more_input() {
-    let mut bench = Bench::desk();
-    let mut lines = [0; LINE_MOST];
-    let mut ended = |input: &[u8]| {
-        let (_, progress) = peer::serve(&mut bench.record, &mut bench.ring, input, 0, false, &mut lines);
-        assert_eq!(progress.read, 0);
-        progress.ended
-    };
-    for waits in
-        [&b"\xA5"[..], b"\xA5\x5A", b"\xA5\x5A\x01", b"\xA5\x5A\x01\x06", b"\xA5\x5A\x01\x06\x01\x02\x03\x04\x05"]
-    {
-        assert!(!ended(waits), "{waits:02X?}");
-    }
-    for bad in
-        [&b"\x5A"[..], b"\xA5\xA5", b"\xA5\x5A\x09", b"\xA5\x5A\x01\x05", b"\xA5\x5A\x06\x00", b"\xA5\x5A\x24\x01"]
-    {
-        assert!(ended(bad), "{bad:02X?}");
-    }
 }

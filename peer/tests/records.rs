@@ -5,8 +5,8 @@ mod common;
 
 use common::*;
 use peer::{
-    kind, read, serve, write, FeederState, Granted, Reading, Reason, Record, ScanState, DESK_REPLY, KINDS, LINE_MOST,
-    VERSION, WORDS,
+    kind, read, write, FeederState, Granted, Reading, Reason, Record, ScanState, DESK_REPLY, KINDS, LINE_MOST, VERSION,
+    WORDS,
 };
 
 #[test]
@@ -176,14 +176,14 @@ fn written_records_read_back() {
             assert_eq!(read(&buffer, 0), Reading::Record { kind, payload, next: 4 + length });
             let later = [b"xyz", &buffer[..4 + length]].concat();
             assert_eq!(read(&later, 3), Reading::Record { kind, payload, next: 7 + length });
-            for cut in 1..4 + length {
+            for cut in 0..4 + length {
                 assert_eq!(read(&later[..3 + cut], 3), Reading::Cut { place: 3 });
             }
         }
     }
-    // "Also at or past the end."
+    // "Also at or past the end": bad, and only because the input ends there.
     for place in [3, 4, usize::MAX] {
-        assert_eq!(read(b"\xA5\x5A\x24", place), Reading::Bad { place });
+        assert_eq!(read(b"\xA5\x5A\x24", place), Reading::Cut { place });
     }
 }
 
@@ -259,7 +259,7 @@ fn long_walks() {
         }
         let mut whole = Bench::new(ring_length, 0);
         let mut lines = vec![0; text.len() + LINE_MOST];
-        let (number, progress) = serve(&mut whole.record, &mut whole.ring, &input, 0, true, &mut lines);
+        let (number, progress) = whole.serve(&input, 0, true, &mut lines);
         assert_eq!((number, progress.read, progress.ended), (0, input.len(), false));
         assert!(lines[..progress.written] == text[..]);
         assert_eq!((whole.record, whole.ring), (bench.record, bench.ring));

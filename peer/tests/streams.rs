@@ -6,8 +6,8 @@ use std::fs;
 use std::io::Write;
 use std::process::{Command, Stdio};
 
-use common::{text_in_windows, Bench};
-use peer::{perform, read, serve, Progress, Reading, Record, ScanState, DESK_REPLY, DESK_RING, LINE_MOST};
+use common::{text_by_records, text_in_windows, Bench};
+use peer::{read, Progress, Reading, Record, ScanState, DESK_REPLY, DESK_RING, LINE_MOST};
 
 /// The example's records, and its lines.
 const EXAMPLE: [(&str, &str); 5] = [
@@ -43,6 +43,7 @@ fn assert_windows(bench: &Bench, input: &[u8], right: &str) {
     let whole = (input.len().max(1), LINE_MOST * (input.len() + 1));
     for (step, room) in [whole, (1, LINE_MOST), (1, 5000), (3, 1279), (7, 1280), (259, 641), (1000, LINE_MOST)] {
         assert_eq!(text_in_windows(bench.clone(), input, step, room), right, "step {step}, room {room}");
+        assert_eq!(text_by_records(bench.clone(), input, step), right, "step {step}");
     }
 }
 
@@ -174,8 +175,8 @@ fn assert_unsound(mut bench: Bench, input: &[u8], right: &str) {
     let mut place = 0;
     while let Reading::Record { next, .. } = read(input, place) {
         let (record, mut line) = (&input[place..next], [0; LINE_MOST]);
-        assert_eq!(serve(&mut bench.record, &mut bench.ring, record, 0, true, &mut line), nothing);
-        assert_eq!(perform(&mut bench.record, &mut bench.ring, &mut bench.reply, record, 0, &mut line), nothing);
+        assert_eq!(bench.serve(record, 0, true, &mut line), nothing);
+        assert_eq!(bench.perform(record, 0, true, &mut line), nothing);
         place = next;
     }
     assert_eq!((bench.record, bench.ring, right), (before, ring, "604 0 0\n"));

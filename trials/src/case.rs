@@ -52,14 +52,24 @@ pub struct Call {
 }
 
 impl Call {
-    /// A record by perform, as the desk would have it answered.
+    /// A record by perform, as the desk would have it answered where no input follows.
     pub fn perform(input: impl Into<Input>) -> Call {
         let (reply, room) = (DESK_REPLY, LINE_MOST);
-        Call { kind: Kind::Perform, input: input.into(), offset: 0, last: false, reply, room }
+        Call { kind: Kind::Perform, input: input.into(), offset: 0, last: true, reply, room }
     }
 
     pub fn serve(input: impl Into<Input>, offset: u64, last: bool, room: usize) -> Call {
         Call { kind: Kind::Serve, input: input.into(), offset, last, reply: 0, room }
+    }
+
+    /// Whether the call is lent an input and lines.
+    pub fn puts_lines(&self) -> bool {
+        matches!(self.kind, Kind::Perform | Kind::Serve)
+    }
+
+    /// Whether the call is lent lines with less room than a line takes.
+    pub fn lacks_room(&self) -> bool {
+        self.puts_lines() && self.room < LINE_MOST
     }
 
     /// A call that is lent no input.
@@ -72,7 +82,7 @@ impl Display for Call {
     fn fmt(&self, to: &mut Formatter) -> std::fmt::Result {
         let Call { input, offset, last, reply, room, .. } = self;
         match self.kind {
-            Kind::Perform => write!(to, "perform {} offset {offset} reply {reply} room {room}", hex(input)),
+            Kind::Perform => write!(to, "perform {} offset {offset} last {last} reply {reply} room {room}", hex(input)),
             Kind::Serve => write!(to, "serve {} offset {offset} last {last} room {room}", hex(input)),
             kind => write!(to, "{kind:?}"),
         }
@@ -141,7 +151,7 @@ impl Model {
         let record = &mut self.record;
         let answered = catch_unwind(AssertUnwindSafe(|| match (call.kind, record) {
             (Kind::Tick, Some(record)) => Came { number: peer::tick(record, ring.len()), ..Came::default() },
-            (Kind::Perform, Some(record)) => told(peer::perform(record, ring, reply, input, offset, lines)),
+            (Kind::Perform, Some(record)) => told(peer::perform(record, ring, reply, input, offset, call.last, lines)),
             (Kind::Serve, Some(record)) => told(peer::serve(record, ring, input, offset, call.last, lines)),
             (Kind::Tick | Kind::Perform | Kind::Serve, None) => Came::UNSOUND,
             _ => Came::default(),

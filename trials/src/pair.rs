@@ -8,7 +8,7 @@ use crate::case::{Call, Case, Input, Model, Start, BLANK, NOT_ASKED};
 use crate::link::{Ended, Link, HEAD};
 use crate::rng::Rng;
 use crate::wire::*;
-use peer::{kind, FeederState, Record, WORDS};
+use peer::{kind, FeederState, Record, NO_RECORD, WORDS};
 use std::fmt::{Display, Formatter};
 use std::ops::Range;
 use std::rc::Rc;
@@ -239,6 +239,7 @@ impl Pair {
         self.batch.ends.push(self.batch.expected.len());
         self.ring_before[changed.clone()].copy_from_slice(ring);
         self.is_as_filled &= changed.is_empty();
+        self.check_number(call)?;
         self.check_refusal(call, &before, !changed.is_empty(), reply_changed)?;
         Ok(came)
     }
@@ -249,7 +250,7 @@ impl Pair {
     fn looks(&self, call: &Call, memory: Memory) -> (bool, usize) {
         let all = self.turn % 16 == 0 || memory != Memory::Usual;
         let Came { number, read, .. } = self.model.came;
-        let waits = call.kind == Kind::Serve && read == 0 && !call.last && self.model.ring.len() >= 8192;
+        let waits = call.puts_lines() && read == 0 && !call.last && self.model.ring.len() >= 8192;
         let ring = !waits || all || (number == 604 && self.turn == 1);
         (ring && !matches!(call.kind, Kind::Ask | Kind::Layout), if all { usize::MAX } else { WATCHED })
     }
@@ -299,12 +300,32 @@ impl Pair {
         Ok(())
     }
 
+    /// A call that is 604, or lent too little room for a line, does nothing. Where perform does something, 0 and the
+    /// paper's numbers mean that a record is answered; one that only waits puts no line.
+    fn check_number(&self, call: &Call) -> Result<(), Difference> {
+        let came = &self.model.came;
+        let nothing = Came { number: came.number, ..Came::default() };
+        if call.lacks_room() && !matches!(came.number, 603 | 604) {
+            return fails("lines too short are neither 603 nor 604", came);
+        }
+        if came.number == 604 || call.lacks_room() {
+            return if *came == nothing { Ok(()) } else { fails("a call that does nothing comes to something", came) };
+        }
+        if call.kind == Kind::Perform && (came.number == NO_RECORD) != (came.read == 0) {
+            return fails("the number does not tell whether a record is answered", came);
+        }
+        if came.number == NO_RECORD && came.ended == 0 && (call.last || *came != nothing) {
+            return fails("a record waits where no input follows, or comes to something", came);
+        }
+        Ok(())
+    }
+
     /// "What it leaves": a call that the peer refuses leaves all as it was; by Load's 713 the feeder is Unloaded, the
-    /// rest kept.
+    /// rest kept. So does one that answers no record.
     fn check_refusal(&self, call: &Call, before: &Words, ring: bool, reply: bool) -> Result<(), Difference> {
         let Model { came, words, .. } = &self.model;
-        if came.number == 604 && (words != before || *came != Came::UNSOUND || ring) {
-            return fails("604 leaves something changed", words_text(words));
+        if came.number != 0 && ring {
+            return fails("a refused call writes in the ring", came);
         }
         if came.number != 0 && reply {
             return fails("a refused call writes in the reply", hex(&self.model.reply));

@@ -2,7 +2,7 @@
 
 use crate::case::{pieces, whole, Call, Case, Model, Start};
 use crate::pair::Pair;
-use crate::wire::{show_text, words_text, Difference, Kind, Memory, Words};
+use crate::wire::{show_text, words_text, Difference, Memory, Words};
 use peer::{Record, DESK_REPLY, LINE_MOST, NAMES, WORDS};
 use std::time::{Duration, Instant};
 
@@ -119,11 +119,11 @@ impl Shrinker<'_> {
         }
     }
 
-    /// The desk's reply, lines and offset; a perform rather than a serve.
+    /// The desk's reply, lines and offset, no more input; a perform rather than a serve.
     fn plainer_call(&mut self, place: usize) {
         self.offer_call(place, |call| call.offset = 0);
-        self.offer_call(place, |call| call.last |= call.kind == Kind::Serve);
-        if self.best.calls.get(place).is_some_and(|call| matches!(call.kind, Kind::Perform | Kind::Serve)) {
+        self.offer_call(place, |call| call.last |= call.puts_lines());
+        if self.best.calls.get(place).is_some_and(Call::puts_lines) {
             self.offer_call(place, |call| call.room = LINE_MOST);
             let _ = self.offer_call(place, |call| *call = Call::perform(call.input.clone()))
                 || self.offer_call(place, |call| call.reply = DESK_REPLY);

@@ -1,6 +1,8 @@
 //! What the trials reach: how often each kind got each number, and what the streams pass.
 
-use peer::{kind, FeederState, Listed, Record, ScanState, KINDS, LISTED};
+use crate::case::Call;
+use crate::wire::{Came, Kind};
+use peer::{kind, FeederState, Listed, Reading, Record, ScanState, KINDS, LISTED, NO_RECORD};
 use std::collections::BTreeMap;
 
 /// The paper's numbers, 0 for acceptance first.
@@ -14,6 +16,8 @@ pub struct Tally {
     pub bad: u64,
     /// Records that are sound but for their version, by it.
     versions: [u64; VERSIONS.len()],
+    /// Calls that answer no record, by what they find.
+    unanswered: [u64; UNANSWERED.len()],
     marks: [u64; MARKS.len()],
 }
 
@@ -45,6 +49,16 @@ impl Tally {
         self.versions[version.min(3) as usize + wide] += 1;
     }
 
+    /// Notes a call, and what it came to, where it answers no record.
+    pub fn note_call(&mut self, call: &Call, came: &Came) {
+        if !call.puts_lines() || came.read > 0 || came.number == 604 {
+            return;
+        }
+        for (count, (_, finds)) in self.unanswered.iter_mut().zip(UNANSWERED) {
+            *count += finds(call, came) as u64;
+        }
+    }
+
     /// Notes a record of a stream that is accepted.
     pub fn note_passed(&mut self, passed: &Passed) {
         for (count, (_, passes)) in self.marks.iter_mut().zip(MARKS) {
@@ -63,6 +77,9 @@ impl Tally {
         }
         println!("  bad: {}", self.bad);
         for (count, name) in self.versions.iter().zip(VERSIONS) {
+            println!("  {name}: {count}");
+        }
+        for (count, (name, _)) in self.unanswered.iter().zip(UNANSWERED) {
             println!("  {name}: {count}");
         }
         for (count, (name, _)) in self.marks.iter().zip(MARKS).filter(|_| marks) {
@@ -87,7 +104,8 @@ impl Tally {
             faults.push("never reached: bad".to_string());
         }
         let marks = self.marks.iter().zip(MARKS.map(|(name, _)| name)).filter(|_| marks);
-        let missed = self.versions.iter().zip(VERSIONS).chain(marks).filter(|(&count, _)| count == 0);
+        let unanswered = self.unanswered.iter().zip(UNANSWERED.map(|(name, _)| name));
+        let missed = self.versions.iter().zip(VERSIONS).chain(unanswered).chain(marks).filter(|(&count, _)| count == 0);
         faults.extend(missed.map(|(_, name)| format!("never reached: {name}")));
         faults
     }
@@ -102,6 +120,46 @@ fn misses<K: Ord>(reached: &BTreeMap<K, u64>, possible: &[K], tell: impl Fn(&K) 
 
 /// The right version, those beside it, and others.
 const VERSIONS: [&str; 5] = ["version 0", "version 1", "version 2", "another version", "a version beyond 32 bits"];
+
+type Finds = (&'static str, fn(&Call, &Came) -> bool);
+
+/// What calls find that answer no record: too little room for a line, and what stands at the front of the input.
+const UNANSWERED: [Finds; 12] = [
+    ("perform, no room, a record", |call, came| lacks_room(call, came, Kind::Perform) && is_whole(call)),
+    ("perform, no room, a cut record or none", |call, came| lacks_room(call, came, Kind::Perform) && is_cut(call)),
+    ("perform, no room, a bad record", |call, came| {
+        lacks_room(call, came, Kind::Perform) && !is_cut(call) && !is_whole(call)
+    }),
+    ("perform, no input, more may come", |call, came| waits(call, came) && call.input.is_empty()),
+    ("perform, a cut record, more may come", |call, came| waits(call, came) && !call.input.is_empty()),
+    ("perform, a bad record, more may come", |call, came| ends(call, came) && !call.last),
+    ("perform, no input, the last", |call, came| ends(call, came) && call.last && call.input.is_empty()),
+    ("perform, a cut record, the last", |call, came| ends(call, came) && is_cut(call) && !call.input.is_empty()),
+    ("perform, a bad record, the last", |call, came| ends(call, came) && call.last && !is_cut(call)),
+    ("serve, no room, no input", |call, came| lacks_room(call, came, Kind::Serve) && call.input.is_empty()),
+    ("serve, no room, more may come", |call, came| lacks_room(call, came, Kind::Serve) && !call.last),
+    ("serve, no room, the last", |call, came| lacks_room(call, came, Kind::Serve) && call.last),
+];
+
+fn lacks_room(call: &Call, came: &Came, kind: Kind) -> bool {
+    call.kind == kind && came.number == 603
+}
+
+fn waits(call: &Call, came: &Came) -> bool {
+    call.kind == Kind::Perform && came.number == NO_RECORD && came.ended == 0
+}
+
+fn ends(call: &Call, came: &Came) -> bool {
+    call.kind == Kind::Perform && came.number == NO_RECORD && came.ended == 1
+}
+
+fn is_whole(call: &Call) -> bool {
+    matches!(peer::read(&call.input, 0), Reading::Record { .. })
+}
+
+fn is_cut(call: &Call) -> bool {
+    matches!(peer::read(&call.input, 0), Reading::Cut { .. })
+}
 
 /// A record of a stream that is accepted, and the box before and behind it.
 pub struct Passed<'a> {

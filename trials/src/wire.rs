@@ -4,7 +4,7 @@
 
 use crate::case::Call;
 use crate::tally::NUMBERS;
-use peer::{DESK_REPLY, KINDS, LINE_MOST, NAMES, RING_MOST, VERSION, WORDS};
+use peer::{DESK_REPLY, KINDS, LINE_MOST, NAMES, NO_RECORD, RING_MOST, VERSION, WORDS};
 use std::fmt::{Display, Formatter, Write};
 
 /// The box record in words, as include/bench_box.h numbers them.
@@ -236,6 +236,7 @@ pub fn header() -> Vec<(String, u64)> {
         ("BENCH_BOX_RECORD_HEAD", 4),
         ("BENCH_BOX_RECORD_MOST", 259),
         ("BENCH_BOX_NONE", NONE),
+        ("BENCH_BOX_NO_RECORD", NO_RECORD.into()),
         ("the size of a box", size),
         ("the alignment of a box", 8),
         ("the size of a progress", 24),
@@ -275,7 +276,7 @@ pub fn differs(proved: &[u8], peer: &[u8]) -> Difference {
     let told = |side: fn(&Both) -> &String| facts.iter().map(side).cloned().collect::<Vec<String>>().join("; ");
     let what = told(|(ours, _)| &ours.0);
     let number = ours.came.number;
-    let is_refused = number != 0 && number == theirs.came.number;
+    let is_refused = ![0, NO_RECORD].contains(&number) && number == theirs.came.number;
     let what = if is_refused { format!("{number} leaves something changed: {what}") } else { what };
     Difference::new(what, told(|(ours, _)| &ours.1), told(|(_, theirs)| &theirs.1))
 }

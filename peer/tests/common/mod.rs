@@ -1,7 +1,9 @@
 //! What the tests share: desk records by name, a box to try them on, and a host that feeds windows.
 #![allow(dead_code)]
 
-use peer::{kind, perform, serve, write, FeederState, Progress, Record, ScanState, DESK_REPLY, DESK_RING, LINE_MOST};
+use peer::{
+    kind, perform, serve, write, FeederState, Progress, Record, ScanState, DESK_REPLY, DESK_RING, LINE_MOST, NO_RECORD,
+};
 
 /// One desk record's bytes.
 pub fn desk_record(kind: u8, payload: &[u8]) -> Vec<u8> {
@@ -77,10 +79,18 @@ impl Bench {
         Bench::new(DESK_RING, DESK_REPLY)
     }
 
+    pub fn perform(&mut self, input: &[u8], offset: u64, last: bool, line: &mut [u8]) -> (u16, Progress) {
+        perform(&mut self.record, &mut self.ring, &mut self.reply, input, offset, last, line)
+    }
+
+    pub fn serve(&mut self, input: &[u8], offset: u64, last: bool, lines: &mut [u8]) -> (u16, Progress) {
+        serve(&mut self.record, &mut self.ring, input, offset, last, lines)
+    }
+
     /// Answers one record and gives its number and line. Nothing behind the line changes.
     pub fn try_record(&mut self, input: &[u8]) -> (u16, String) {
         let mut line = [0xCC; LINE_MOST];
-        let (number, progress) = perform(&mut self.record, &mut self.ring, &mut self.reply, input, 0, &mut line);
+        let (number, progress) = self.perform(input, 0, true, &mut line);
         assert_eq!(progress.read, input.len());
         assert!(!progress.ended);
         assert!(line[progress.written..].iter().all(|&byte| byte == 0xCC));
@@ -144,8 +154,7 @@ pub fn text_in_windows(mut bench: Bench, input: &[u8], step: usize, room: usize)
         let last = shown == input.len();
         loop {
             let mut lines = vec![0xCC; room];
-            let (number, progress) =
-                serve(&mut bench.record, &mut bench.ring, &input[place..shown], place as u64, last, &mut lines);
+            let (number, progress) = bench.serve(&input[place..shown], place as u64, last, &mut lines);
             let Progress { read, written, ended } = progress;
             assert_eq!(number, 0);
             assert!(lines[written..].iter().all(|&byte| byte == 0xCC));
@@ -164,6 +173,29 @@ pub fn text_in_windows(mut bench: Bench, input: &[u8], step: usize, room: usize)
         }
         shown = input.len().min(shown + step);
     }
+}
+
+/// The whole input's text from a host that shows so many bytes more at a time and has one record answered at a time.
+pub fn text_by_records(mut bench: Bench, input: &[u8], step: usize) -> String {
+    let mut text = Vec::new();
+    let (mut place, mut shown) = (0, 0);
+    while place < input.len() {
+        let (last, mut line) = (shown == input.len(), [0xCC; LINE_MOST]);
+        let (number, progress) = bench.perform(&input[place..shown], place as u64, last, &mut line);
+        let Progress { read, written, ended } = progress;
+        assert_eq!(number == NO_RECORD, read == 0);
+        assert!(line[written..].iter().all(|&byte| byte == 0xCC));
+        text.extend(&line[..written]);
+        place += read;
+        if ended {
+            break;
+        }
+        if read == 0 {
+            assert!(written == 0 && !last);
+            shown = input.len().min(shown + step);
+        }
+    }
+    String::from_utf8(text).unwrap()
 }
 
 /// Small numbers in an order that looks random and is the same each time.

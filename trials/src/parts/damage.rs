@@ -2,7 +2,7 @@
 
 use super::streams::{cut_and_whole, serve};
 use super::{Differs, Trial};
-use crate::case::{whole, Call, Start};
+use crate::case::{whole, Call, Input, Start};
 use crate::guide::{Guide, Mix};
 use crate::rng::Rng;
 use crate::start::{ring_length, some_start};
@@ -35,7 +35,7 @@ fn every_head(trial: &mut Trial) -> Result<u64, Differs> {
             heads += 1;
             trial.at("2, heads", heads);
             serve(trial, &Start::fresh(16), &record[..bytes].into(), 0, None)?;
-            waiting(trial, &Start::fresh(16), &record[..bytes], Call::serve(Vec::new(), 0, false, 1280))?;
+            waiting(trial, &Start::fresh(16), &record[..bytes], &[Call::serve(Vec::new(), 0, false, 1280)])?;
         }
     }
     Ok(heads)
@@ -49,22 +49,23 @@ fn every_short_head(trial: &mut Trial) -> Result<u64, Differs> {
         for (kind, length) in (0..=255).flat_map(|kind| (0..=3).map(move |length| (kind, length))) {
             heads += 1;
             trial.at("2, short heads", heads);
-            for last in [false, true] {
-                let call = Call::serve(Vec::new(), 7, last, 640);
-                waiting(trial, &Start::fresh(1), &[first, second, kind][..length], call)?;
-            }
+            let serves = [false, true].map(|last| Call::serve(Vec::new(), 7, last, 640));
+            waiting(trial, &Start::fresh(1), &[first, second, kind][..length], &serves)?;
         }
     }
     Ok(heads)
 }
 
-/// The input by perform, and by a serve: where more input may come, a cut record waits.
-fn waiting(trial: &mut Trial, start: &Start, input: &[u8], serve: Call) -> Result<(), Differs> {
+/// The input by perform, whether more may come or not, and by serves: where more may come, a cut record waits.
+fn waiting(trial: &mut Trial, start: &Start, input: &[u8], serves: &[Call]) -> Result<(), Differs> {
+    let input = Input::from(input.to_vec());
     trial.begin(start);
-    let call = Call::perform(input.to_vec());
-    let input = call.input.clone();
-    trial.call(call)?;
-    trial.call(Call { input, ..serve })?;
+    for last in [false, true] {
+        trial.call(Call { last, ..Call::perform(input.clone()) })?;
+    }
+    for serve in serves {
+        trial.call(Call { input: input.clone(), ..serve.clone() })?;
+    }
     trial.end()
 }
 

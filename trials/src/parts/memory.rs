@@ -55,11 +55,11 @@ fn some_lending(rng: &mut Rng, number: u64) -> (Start, Call) {
         start.ring_length = 0;
     }
     let reply = rng.pick(&[0, 1, 3, 4, 5, 8, 100, 255, 258, 259, 260, 300]);
-    let (room, offset) = (rng.pick(&[0, 1, 639, 640, 641, 1280, 6000]), offset(rng));
+    let (room, offset, last) = (rng.pick(&[0, 1, 639, 640, 641, 1280, 6000]), offset(rng), rng.chance(50));
     if serves {
-        return (start, Call::serve(input, offset, rng.chance(50), room));
+        return (start, Call::serve(input, offset, last, room));
     }
-    (start, Call { offset, reply, room, ..Call::perform(input) })
+    (start, Call { offset, last, reply, room, ..Call::perform(input) })
 }
 
 /// All that is lent stands in one block, each thing at any place, with guard bytes everywhere else.

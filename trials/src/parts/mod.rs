@@ -78,6 +78,7 @@ impl Trial {
         let came = outcome.map_err(|difference| self.tell(difference))?;
         self.tally.note_text(self.pair.model.text());
         let call = &self.case.calls[self.case.calls.len() - 1];
+        self.tally.note_call(call, &came);
         if let (604, Kind::Perform, Reading::Record { kind, .. }) = (came.number, call.kind, peer::read(&call.input, 0))
         {
             self.tally.note(kind, 604);

@@ -1,29 +1,33 @@
 //! Part 3: one record at a time, with lent replies and lines of many lengths.
 
 use super::damage::damage;
-use super::streams::some_room;
+use super::streams::{as_whole, some_room};
 use super::{Differs, Trial};
-use crate::case::{Call, Start};
+use crate::case::{Call, Input, Start, NOT_ASKED};
 use crate::guide::{fetch, Guide, Mix};
 use crate::rng::Rng;
 use crate::start::{offset, present_name, ring_length, some_start};
-use crate::wire::{Kind, Memory};
+use crate::wire::{hex, Difference, Kind, Memory};
 use peer::{FeederState, Record, ScanState};
+use std::rc::Rc;
 use std::time::Instant;
 
-/// So many walks at least, whatever the time.
+/// So many walks at least, whatever the time; and so many live streams.
 const LEAST: u64 = 2000;
+const LIVE: u64 = 400;
 
 pub fn run(trial: &mut Trial, until: Instant) -> Result<String, Differs> {
     let fetches = every_fetch(trial)?;
+    let rooms = every_room(trial)?;
+    let live = trial.cases("3, live streams", LIVE, Instant::now(), live)?;
     let mut replies = [0u64; 601];
     let walks =
         trial.cases("3, one at a time", LEAST, until, |trial, rng, number| walk(trial, rng, number, &mut replies))?;
     let least = (0..=8).chain(255..=260).map(|length| replies[length]).min().unwrap_or(0);
     let lengths = replies.iter().filter(|&&times| times > 0).count();
     Ok(format!(
-        "{fetches} fetches at every edge, {walks} walks; each reply length of 0..=8 and 255..=260 at least {least} \
-         times, {lengths} of 601 lengths in all"
+        "{fetches} fetches at every edge, {rooms} calls with lines of 0 to 700 bytes, {live} live streams, {walks} \
+         walks; each reply length of 0..=8 and 255..=260 at least {least} times, {lengths} of 601 lengths in all"
     ))
 }
 
@@ -42,6 +46,69 @@ fn every_fetch(trial: &mut Trial) -> Result<u64, Differs> {
         }
     }
     Ok(fetches)
+}
+
+/// What may stand at the front of an input: a record, with more behind it; no input; a cut record; a bad one.
+const FRONTS: [&[u8]; 6] =
+    [b"\xA5\x5A\x24\x00", b"\xA5\x5A\x22\x01\x01\xA5", b"", b"\xA5\x5A\x22\x01", b"\xA5\x5A\x22\x02", b"\x00"];
+
+/// Lines of every length around a line's room, whatever the input is.
+fn every_room(trial: &mut Trial) -> Result<u64, Differs> {
+    let mut calls = 0;
+    for (room, front) in (0..=700).flat_map(|room| FRONTS.map(|front| (room, front))) {
+        trial.at("3, rooms", calls);
+        trial.begin(&Start::fresh(4096));
+        for last in [false, true] {
+            trial.call(Call { last, room, ..Call::perform(front.to_vec()) })?;
+            trial.call(Call::serve(front.to_vec(), 0, last, room))?;
+            calls += 2;
+        }
+        trial.end()?;
+    }
+    Ok(calls)
+}
+
+/// A stream record by record, as a host has it from a live input: it comes in pieces, what is only cut waits, and some
+/// lines have no room. It comes to what the whole stream comes to.
+fn live(trial: &mut Trial, mut rng: Rng, number: u64) -> Result<(), Differs> {
+    let length = ring_length(&mut rng);
+    let start = some_start(&mut rng, length, number);
+    let (mix, records) = (rng.pick(&Mix::ALL), rng.between(1, 60));
+    let mut stream = Guide::new(&mut rng, &start, mix).stream(records);
+    if rng.chance(50) {
+        damage(&mut rng, &mut stream);
+    }
+    let (stream, base) = (Rc::from(stream), offset(&mut rng));
+    let text = perform_all(trial, &mut rng, &start, &stream, base)?;
+    as_whole(trial, &start, &stream, base, &text)
+}
+
+fn perform_all(
+    trial: &mut Trial,
+    rng: &mut Rng,
+    start: &Start,
+    stream: &Rc<[u8]>,
+    base: u64,
+) -> Result<Vec<u8>, Differs> {
+    let step_most = rng.pick(&[1, 3, 8, 30, 300, 3000]);
+    let (mut text, mut from, mut seen) = (Vec::new(), 0, 0);
+    trial.begin(start);
+    for _ in 0..4 * stream.len() + 1000 {
+        if from == stream.len() {
+            trial.end()?;
+            return Ok(text);
+        }
+        if seen < stream.len() && rng.chance(50) {
+            seen = (seen + rng.between(1, step_most)).min(stream.len());
+        }
+        let last = seen == stream.len() && rng.chance(75);
+        let input = Input { stream: Rc::clone(stream), from, length: seen - from };
+        let (offset, room) = (base.wrapping_add(from as u64), some_room(rng, 640));
+        let came = trial.call(Call { offset, last, room, ..Call::perform(input) })?;
+        text.extend_from_slice(trial.pair.model.text());
+        from = if came.ended == 1 { stream.len() } else { from + came.read };
+    }
+    Err(trial.tell(Difference::new("the records come to no end", NOT_ASKED, hex(stream))))
 }
 
 /// Sound records at every edge of ring, state, stored and start.
@@ -103,9 +170,9 @@ fn some_call(rng: &mut Rng, mut input: Vec<u8>) -> Call {
         }
         _ => {}
     }
-    let (offset, room) = (offset(rng), some_room(rng, 640));
+    let (offset, room, last) = (offset(rng), some_room(rng, 640), rng.chance(50));
     if rng.chance(10) {
-        return Call::serve(input, offset, rng.chance(50), room);
+        return Call::serve(input, offset, last, room);
     }
     let reply = match rng.below(10) {
         0..3 => rng.below(9),
@@ -114,5 +181,5 @@ fn some_call(rng: &mut Rng, mut input: Vec<u8>) -> Call {
         6 => rng.below(64),
         _ => 259,
     };
-    Call { offset, reply, room, ..Call::perform(input) }
+    Call { offset, last, reply, room, ..Call::perform(input) }
 }

@@ -148,7 +148,7 @@ fn try_entries(trial: &mut Trial, rng: &mut Rng, counts: &mut Counts, start: &St
     let calls = [
         Call::plain(Kind::Ask),
         Call::plain(Kind::Tick),
-        Call { offset: offset(rng), reply, room, ..Call::perform(one) },
+        Call { offset: offset(rng), last: rng.chance(50), reply, room, ..Call::perform(one) },
         Call::serve(two, offset(rng), rng.chance(50), room),
     ];
     for (place, call) in calls.into_iter().enumerate() {

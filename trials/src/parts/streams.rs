@@ -76,19 +76,25 @@ fn guided(trial: &mut Trial, rng: &mut Rng, start: &Start, records: &mut u64) ->
 pub fn cut_and_whole(trial: &mut Trial, start: &Start, stream: Vec<u8>, rng: &mut Rng) -> Result<Vec<u8>, Differs> {
     let (stream, base) = (stream.into(), offset(rng));
     let cut = serve(trial, start, &stream, base, Some(rng))?;
+    as_whole(trial, start, &stream, base, &cut)?;
+    Ok(cut)
+}
+
+/// Serves a stream in one whole window: the text, the record and the ring are those that it came to before.
+pub fn as_whole(trial: &mut Trial, start: &Start, stream: &Rc<[u8]>, base: u64, text: &[u8]) -> Result<(), Differs> {
     let (words, ring) = (trial.pair.model.words, trial.pair.model.ring.clone());
-    let whole = serve(trial, start, &stream, base, None)?;
-    let what = if cut != whole {
+    let whole = serve(trial, start, stream, base, None)?;
+    let what = if text != whole {
         "text"
     } else if words != trial.pair.model.words {
         "record"
     } else if ring != trial.pair.model.ring {
         "ring"
     } else {
-        return Ok(cut);
+        return Ok(());
     };
     let what = format!("the {what} of the cut stream is not that of the whole one");
-    Err(trial.tell(Difference::new(what, NOT_ASKED, hex(&stream))))
+    Err(trial.tell(Difference::new(what, NOT_ASKED, hex(stream))))
 }
 
 /// Serves a stream in windows: cut at random places, or whole. Gives the text.
