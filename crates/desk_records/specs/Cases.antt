@@ -4,7 +4,7 @@ use Prim.Native.Nat.{ℕ}
 use mathlib.Core.Path.{_≡_, refl}
 use mathlib.Core.Bool.{Bool, true, false}
 use mathlib.Core.List.{List, [], _∷_, _++_}
-use lib.ListN.{length, replicate}
+use lib.ListN.{replicate}
 use Rattle.rules.specs.Cases.{Case, that}
 use Rattle.answers.specs.declared.Why.the-variants.{Unlisted, NoRoom}
 use Rattle.answers.specs.declared.Request.the-variants.{StartScan, Fetch, Tick}
@@ -18,11 +18,10 @@ use Rattle.desk_records.specs.declared.Reading.{Reading}
 use Rattle.desk_records.specs.declared.Reading.the-variants.{Record, Bad}
 use Rattle.desk_records.specs.declared.Hearing.{Hearing}
 use Rattle.desk_records.specs.declared.Hearing.the-variants.{Record as Hears, Bad as Unheard}
-use Rattle.desk_records.specs.declared.Written.{Written}
 use Rattle.desk_records.specs.declared.Written.the-variants.{Length, Refused}
 use Rattle.desk_records.specs.Reading.{secondMark, lengthWidth, sized, front, placed, readWith, readAt, cutAt, partOf}
 use Rattle.desk_records.specs.Hearing.{hearAt}
-use Rattle.desk_records.specs.Writing.{inBytes, recordOf, writing, frontFilled, numberIn, lengthOf}
+use Rattle.desk_records.specs.Writing.{inBytes, recordOf, Wrote, writingWith, writing, numberIn, lengthOf}
 
 -- ---- reading: kind, where the payload starts, how long it is, the next place; or bad with its place
 unfoldable pub reads : List ℕ → ℕ → Reading
@@ -104,10 +103,10 @@ hearings =
     ∷ that "bad with its place" (hearAt (bytes "A55A2400 A55A 06 00") 4) (Unheard 4) refl
     ∷ []
 
--- ---- writing: the record, the answer, its number, and the lent buffer then
-unfoldable pub writes : ℕ → List ℕ → List ℕ → Written
-unfolding reads inBytes writing
-writes k p out = writing lengthWidth k p (length out)
+-- ---- writing: the record; the number and the length told, and the lent buffer as it is left
+unfoldable pub writes : ℕ → List ℕ → List ℕ → Wrote
+unfolding reads inBytes writingWith
+writes k p out = writing k p out
 
 pub records : List (Case (List ℕ))
 unfolding writes
@@ -118,15 +117,18 @@ records =
     ∷ that "with the longest" (recordOf 0x20 (replicate 255 0)) (bytes "A55A 20 FF" ++ replicate 255 0) refl
     ∷ []
 
-pub writings : List (Case Written)
+abbrev pub wrote : ℕ → ℕ → List ℕ → Wrote
+wrote number long buffer = record { number = number; length = long; buffer = buffer }
+
+pub writings : List (Case Wrote)
 unfolding writes
 writings =
-    that "gives the length" (writes 0x20 (bytes "4142") (bytes "F0 F1 F2 F3 F4 F5 F6 F7")) (Length 6) refl
-    ∷ that "into the exact room" (writes 0x20 (bytes "4142") (bytes "F0 F1 F2 F3 F4 F5")) (Length 6) refl
-    ∷ that "into one byte less" (writes 0x20 (bytes "4142") (bytes "F0 F1 F2 F3 F4")) (Refused NoRoom) refl
-    ∷ that "a kind not listed" (writes 0x09 [] (bytes "F0 F1 F2 F3 F4")) (Refused Unlisted) refl
-    ∷ that "a payload length not listed" (writes 0x22 [] (bytes "F0 F1 F2 F3 F4")) (Refused Unlisted) refl
-    ∷ that "neither listed nor room: 601 comes first" (writes 0x22 [] []) (Refused Unlisted) refl
+    that "fills the front and gives the length" (writes 0x20 (bytes "4142") (bytes "F0 F1 F2 F3 F4 F5 F6 F7")) (wrote 0 6 (bytes "A5 5A 20 02 41 42 F6 F7")) refl
+    ∷ that "into the exact room" (writes 0x20 (bytes "4142") (bytes "F0 F1 F2 F3 F4 F5")) (wrote 0 6 (bytes "A5 5A 20 02 41 42")) refl
+    ∷ that "into one byte less" (writes 0x20 (bytes "4142") (bytes "F0 F1 F2 F3 F4")) (wrote 603 0 (bytes "F0 F1 F2 F3 F4")) refl
+    ∷ that "a kind not listed" (writes 0x09 [] (bytes "F0 F1 F2 F3 F4")) (wrote 601 0 (bytes "F0 F1 F2 F3 F4")) refl
+    ∷ that "a payload length not listed" (writes 0x22 [] (bytes "F0 F1 F2 F3 F4")) (wrote 601 0 (bytes "F0 F1 F2 F3 F4")) refl
+    ∷ that "neither listed nor room: 601 comes first" (writes 0x22 [] []) (wrote 601 0 []) refl
     ∷ []
 
 pub writtenNumbers : List (Case ℕ)
@@ -135,15 +137,4 @@ writtenNumbers =
     ∷ that "a writer's buffer too short" (numberIn (Refused NoRoom)) 603 refl
     ∷ that "acceptance" (numberIn (Length 6)) 0 refl
     ∷ that "the length given" (lengthOf (Length 6)) 6 refl
-    ∷ []
-
-abbrev pub filledBy : ℕ → List ℕ → List ℕ → List ℕ
-filledBy k p out = frontFilled (writes k p out) (recordOf k p) out
-
-pub buffers : List (Case (List ℕ))
-unfolding writes
-buffers =
-    that "the front is filled" (filledBy 0x20 (bytes "4142") (bytes "F0 F1 F2 F3 F4 F5 F6 F7")) (bytes "A5 5A 20 02 41 42 F6 F7") refl
-    ∷ that "603 leaves it as it was" (filledBy 0x20 (bytes "4142") (bytes "F0 F1 F2 F3 F4")) (bytes "F0 F1 F2 F3 F4") refl
-    ∷ that "601 leaves it as it was" (filledBy 0x22 [] (bytes "F0 F1 F2 F3 F4")) (bytes "F0 F1 F2 F3 F4") refl
     ∷ []
