@@ -43,7 +43,10 @@ left-again ws r n e f =
     let same : recorded ws ≡ r = ap recorded e ∙ recorded-kept r in
     (same, sym (as-sound ws n f refl refl) ∙ ap (λ (x : Record). sound x n) same)
 
--- the number where no record reads is no reason number, and not 0
+-- the number where no record reads is not acceptance's, and no reason's
+pub no-acceptance : eqb noRecord 0 ≡ false
+no-acceptance = refl
+
 pub no-reason : (r : Reason) → eqb (numberOf r) noRecord ≡ false
 no-reason n604 = refl
 no-reason n601 = refl

@@ -1,11 +1,13 @@
 -- A list of a host's calls is `run` of the calls in them: so demands 2 and 3 speak of a host's box.
-use Prim.Native.Nat.{ℕ, _+_, _≤_}
+use Prim.Native.Nat.{ℕ, _+_, _-_, _≤_}
 use mathlib.Core.Path.{_≡_, refl, sym, ap, _∙_, subst}
 use mathlib.Core.Bool.{Bool, true, false, cond}
 use mathlib.Core.List.{List, [], _∷_, _++_}
+use native.Mathlib.Nat.{add-zero}
 use native.Mathlib.Omega.{arith}
 use lib.Dec.{leb, eqb}
 use lib.ListN.{length, take, drop, length-take, length-replicate, replicate, take-append-drop}
+use lib.Seq.{take-nil}
 use Rattle.rules.specs.declared.Record.{Record}
 use Rattle.rules.specs.Record.{fresh}
 use Rattle.rules.specs.Calls.{Call, State, Outcome, report, Tick}
@@ -25,7 +27,7 @@ use Rattle.desk_stream.specs.Desk.{Heard, calling, wrong, hears, callWith, read
 use Rattle.desk_stream.specs.Window.{Piece, noRecord, answeredBy, unheardIn, pieceOf, piece, repliedIn, outset, served}
 use Rattle.desk_stream.specs.Boxed.{boxIn, Came, unsoundNumber, noRoomNumber, asItWas, begun, windowed, serving, saying, performing}
 use Rattle.desk_stream.proofs.Hearing.{heard-whole, heard-alone}
-use Rattle.desk_stream.proofs.Pieces.{unheard-empty, unheard-box, unheard-number}
+use Rattle.desk_stream.proofs.Pieces.{unheard-empty, unheard-box, unheard-number, unheard-text}
 use Rattle.desk_stream.proofs.Replies.{Bare, bare, reply-alike}
 use Rattle.desk_stream.proofs.Answered.{window-ran, window-said}
 use Rattle.host_tick.specs.Second.{secondOf}
@@ -116,12 +118,17 @@ module _ (ws ring : List ℕ) (box : isBox ws (length ring) ≡ true) where
         }
 
     record-short : One s one (toHost (asItWas noRoomNumber ws ring reply line))
-    record-short = nothing-asked (toHost (asItWas noRoomNumber ws ring reply line)) refl refl (not-at-all short refl)
+    record-short =
+        nothing-asked (toHost (asItWas noRoomNumber ws ring reply line)) refl refl
+        (not-at-all short refl (sym (ap (overlaid line 0) (take-nil (length line - 0)))))
 
-    unanswered : (p : Piece) → p .number ≡ noRecord → p .size ≡ 0 → p .box ≡ s → Saying p reply
-    unanswered p n z b =
+    unanswered : (p : Piece) → p .number ≡ noRecord → p .size ≡ 0 → p .box ≡ s → p .text ≡ cond (p .ended) (badText offset) [] → Saying p reply
+    unanswered p n z b t =
+        let at : badText offset ≡ badText (offset + p .size) = ap badText (sym (add-zero offset) ∙ ap (λ (i : ℕ). offset + i) (sym z)) in
         nothing-asked (toHost (saying p reply line)) z (same-box (p .box) ∙ b)
-        (not-at-all (subst Unanswered (sym n) none-reads) refl)
+        (not-at-all (subst Unanswered (sym n) none-reads) refl
+        (ap (λ (x : List ℕ). overlaid line 0 (fitting line 0 x))
+        (t ∙ ap (λ (x : List ℕ). cond (p .ended) x []) at ∙ flagged (p .ended) (badText (offset + p .size)))))
 
     answered : (k : ℕ) (q : Request) (given : List ℕ) (size : ℕ) → hears input ≡ calling k q given size
         → Saying (answeredBy k (step s (callWith (length reply) q given)) size) (replied (asked q given reply) (step s (asked q given reply)) reply)
@@ -149,6 +156,7 @@ module _ (ws ring : List ℕ) (box : isBox ws (length ring) ≡ true) where
     record-whole (calling k q given size) h = answered k q given size h
     record-whole wrong h =
         unanswered (unheardIn offset last s input) (unheard-number offset last s input) (unheard-empty offset last s input) (unheard-box offset last s input)
+        (unheard-text offset last s input)
 
     pub one-record : One s one (comes ws ring one)
     unfolding performing piece

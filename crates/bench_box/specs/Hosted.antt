@@ -96,9 +96,9 @@ pub data Told : HostCall → Left → List Outcome → Type 0 where
   by-number : {reply input line given : List ℕ} {offset k size : ℕ} {last : Bool} {q : Request} {l : Left} {o : Outcome}
       → hears (take (readOf l) input) ≡ calling k q given size → l .number ≡ o .number → l .reply ≡ replied (asked q given reply) o reply
       → l .lines ≡ overlaid line 0 (fitting line 0 (lineFor k o)) → Told (performs reply input offset last line) l (o ∷ [])
-  -- none: its number says so, and the reply is as it was
+  -- none: its number says so, the reply is as it was, and the lines have the bad line if it ended there
   not-at-all : {reply input line : List ℕ} {offset : ℕ} {last : Bool} {l : Left} → Unanswered (l .number) → l .reply ≡ reply
-      → Told (performs reply input offset last line) l []
+      → l .lines ≡ overlaid line 0 (fitting line 0 (badBehind offset l)) → Told (performs reply input offset last line) l []
   -- a second
   by-tick : {l : Left} {o : Outcome} → l .number ≡ o .number → Told ticks l (o ∷ [])
 

@@ -1,5 +1,5 @@
 -- A read's bytes stand behind those that were held, and a turn behind it is a step of the program.
-use Prim.Native.Nat.{ℕ, _+_, _-_, _≤_}
+use Prim.Native.Nat.{ℕ, _+_, _-_, _≤_, _<_}
 use mathlib.Core.Path.{_≡_, refl, sym, ap, _∙_, subst}
 use mathlib.Core.Bool.{Bool, true, false, not}
 use mathlib.Core.List.{List, []}
@@ -14,6 +14,9 @@ use Rattle.desk_stream.specs.Desk.{ringRoom}
 use Rattle.desk_loop.specs.declared.Flow.{Flow}
 use Rattle.desk_loop.specs.Loop.{Desk, atFirst, turned}
 use Rattle.desk_loop.specs.Program.{opened, Brings, withWindow, on, reads, Steps, Stepped, Reaches, begins}
+
+pub lt-to-le : {a b : ℕ} → a < b → a ≤ b
+lt-to-le h = omega arith
 
 module _ (window part : List ℕ) (held : ℕ) (h : held ≤ length window) (l : length (putMid held (length window - held) window part) ≡ length window) where
   abbrev window' : List ℕ

@@ -1,12 +1,14 @@
 // The desk program: records from standard input, a line each on standard output. What stands here reads, takes a turn and writes; all
 // else is `desk_loop`.
 ghost use mathlib.Core.Path.{_≡_};
-ghost use mathlib.Core.Bool.{false};
-ghost use Prim.Native.Nat.{_+_, _≤_};
+ghost use mathlib.Core.Bool.{true, false};
+ghost use Prim.Native.Nat.{_+_, _≤_, _<_};
 ghost use lib.ListN.{length, take, drop, replicate};
 ghost use Rattle.rules.specs.Record.{fresh};
 ghost use Rattle.stored.specs.Stored.{kept};
+ghost use Rattle.desk_line.specs.Line.{lineRoom};
 ghost use Rattle.desk_stream.specs.Desk.{ringRoom};
+ghost use Rattle.desk_stream.specs.Window.{longest};
 ghost use Rattle.desk_loop.specs.Program.{Brings, Stepped};
 use desk_loop::Flow;
 use libc::EPIPE;
@@ -15,7 +17,7 @@ use libc::STDOUT_FILENO;
 use rules::Record;
 use stored::WORDS;
 
-// The ring's length.
+// The paper's ring.
 const RING: usize = 4096;
 
 // How many bytes a read brought, and whether it failed.
@@ -24,9 +26,9 @@ struct Got {
     failed: bool,
 }
 
-// Reads what has come, behind the first `held` bytes.
+// Reads what has come, behind the first `held` bytes: at least one is asked for, so that none tells the end.
 fn read_behind(buf: &mut [u8], held: usize) -> Got
-    requires { ⌜ held ≤ length (now buf) ⌝ }
+    requires { ⌜ held < length (now buf) ⌝ }
     ensures { λ r. ⌜ held + r .count ≤ length (now (buf .exit)) ⌝ }
     ensures { λ r. ⌜ Brings (now (buf .entry)) held (take (r .count) (drop held (now (buf .exit)))) (now (buf .exit)) ⌝ }
 {
@@ -53,6 +55,7 @@ struct Moved {
 // A turn, and before one that wants more input a read.
 fn advance(w: &mut [u64; WORDS], ring: &mut [u8], buf: &mut [u8], out: &mut [u8], f: Flow) -> Moved
     requires { ⌜ f .held ≤ length (now buf) ⌝ }
+    requires { ⌜ (f .wants ≡ true → f .held < length (now buf)) ⌝ }
     ensures { λ m. ⌜ (m .failed ≡ false → Stepped
         (record {
           flow = f;
@@ -103,10 +106,12 @@ fn say(out: &[u8], filled: usize) -> bool
     false
 }
 
-// Step by step until all is said, from a fresh box with the desk's ring.
+// Step by step until all is said, from a fresh box with the desk's ring, a window for any record and room for any line.
 fn pump(w: &mut [u64; WORDS], ring: &mut [u8], buf: &mut [u8], out: &mut [u8])
     requires { ⌜ now w ≡ kept fresh ⌝ }
     requires { ⌜ now ring ≡ replicate ringRoom 0 ⌝ }
+    requires { ⌜ longest ≤ length (now buf) ⌝ }
+    requires { ⌜ lineRoom ≤ length (now out) ⌝ }
 {
     let mut f = desk_loop::begin();
     let mut turns = u64::MAX;

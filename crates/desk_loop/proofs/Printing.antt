@@ -19,11 +19,11 @@ use Rattle.answers.specs.Told.{stateOf}
 use Rattle.desk_text.specs.Put.{overlaid}
 use Rattle.desk_line.specs.Line.{lineRoom}
 use Rattle.desk_stream.specs.Desk.{ringRoom, deskText}
-use Rattle.desk_stream.specs.Window.{Progress, outset, served}
+use Rattle.desk_stream.specs.Window.{longest, Progress, outset, served}
 use Rattle.desk_stream.specs.Boxed.{boxIn, Came, unsoundNumber, noRoomNumber, asItWas, windowed, serving}
 use Rattle.desk_stream.specs.Runs.{Prints, bad, end, more}
 use Rattle.desk_stream.proofs.Answered.{drop-of-take, window-inside}
-use Rattle.desk_stream.proofs.Progress.{longest, little-left}
+use Rattle.desk_stream.proofs.Progress.{little-left}
 use Rattle.desk_stream.proofs.Windows.{desk-prints}
 use Rattle.desk_loop.specs.declared.Flow.{Flow}
 use Rattle.desk_loop.specs.Loop.{unread, filled, settled, settledWindow, Desk, passing, behind, turnedBy, turned}
@@ -274,7 +274,8 @@ module _ (d : Desk) (got : ℕ) where
     full-within = record { front = omega arith; back = omega arith }
 
     pub filled-turn : isBox (d .words) (length (d .ring)) ≡ true → lineRoom ≤ length (d .lines)
-        → Turned (length (d .window)) (boxIn (d .words) (d .ring)) (f .base) (full .last) (length (d .lines)) (unread (d .window) (f .at) (f .held + got)) (turned got d)
+        → Turned (length (d .window)) (boxIn (d .words) (d .ring)) (f .base) (full .last) (length (d .lines))
+        (unread (d .window) (f .at) (f .held + got)) (turned got d)
     unfolding turned
     filled-turn b l =
         subst (λ (x : List ℕ). Turned (length (d .window)) (boxIn (d .words) (d .ring)) (f .base) (full .last) (length (d .lines)) x (turnedBy full d))
@@ -334,7 +335,13 @@ pub program-prints : (window lines : List ℕ) → lineRoom ≤ length lines →
     → text ≡ deskText input
 program-prints window lines l {input} {text} g =
     let at-first : Ready (opened window lines) 0 input =
-    record { box = opened-box window lines; room = l; within = record { front = omega arith; back = omega arith }; count = refl; done = λ x. absurd (false≢true x) } in
+    record {
+      box = opened-box window lines;
+      room = l;
+      within = record { front = omega arith; back = omega arith };
+      count = refl;
+      done = λ x. absurd (false≢true x);
+    } in
     desk-prints
     (subst (λ (s : State). Prints s 0 input text) (rw (recorded-kept fresh) refl) (goes-prints g 0 at-first refl))
 

@@ -58,7 +58,8 @@ module _ (f : Flow) (got : ℕ) (ws ring window lines : List ℕ) {g : Flow} (e 
       held-within l = rw (k, l) (go (h .wants))
         where
           go : (b : Bool)
-              → cond b (record { at = 0; held = h .held - h .at; base = h .base; last = h .last; wants = h .wants; over = h .over; written = h .written }) h .held
+              → cond b (record { at = 0; held = h .held - h .at; base = h .base; last = h .last; wants = h .wants; over = h .over; written = h .written }) h
+              .held
               ≤ length window
           go true = omega (arith, passed-within .back)
           go false = passed-within .back

@@ -123,7 +123,8 @@ wrote number long buffer = record { number = number; length = long; buffer = buf
 pub writings : List (Case Wrote)
 unfolding writes
 writings =
-    that "fills the front and gives the length" (writes 0x20 (bytes "4142") (bytes "F0 F1 F2 F3 F4 F5 F6 F7")) (wrote 0 6 (bytes "A5 5A 20 02 41 42 F6 F7")) refl
+    that "fills the front and gives the length" (writes 0x20 (bytes "4142") (bytes "F0 F1 F2 F3 F4 F5 F6 F7"))
+    (wrote 0 6 (bytes "A5 5A 20 02 41 42 F6 F7")) refl
     ∷ that "into the exact room" (writes 0x20 (bytes "4142") (bytes "F0 F1 F2 F3 F4 F5")) (wrote 0 6 (bytes "A5 5A 20 02 41 42")) refl
     ∷ that "into one byte less" (writes 0x20 (bytes "4142") (bytes "F0 F1 F2 F3 F4")) (wrote 603 0 (bytes "F0 F1 F2 F3 F4")) refl
     ∷ that "a kind not listed" (writes 0x09 [] (bytes "F0 F1 F2 F3 F4")) (wrote 601 0 (bytes "F0 F1 F2 F3 F4")) refl

@@ -30,7 +30,9 @@ module _ (ws ring lines : List ℕ) {number : ℕ} (e : number ≡ barredBy ws (
       go false r f g h = absurd (omega arith)
 
   pub barred-keeps : (reply : List ℕ) (came : Came) → 0 < number → asItWas number ws ring reply lines ≡ begun ws ring reply lines came
-  barred-keeps reply came h = ap (λ (n : ℕ). asItWas n ws ring reply lines) e ∙ go (isBox ws (length ring)) (leb (0 + lineRoom) (length lines)) (omega (arith, e))
+  barred-keeps reply came h =
+      ap (λ (n : ℕ). asItWas n ws ring reply lines) e
+      ∙ go (isBox ws (length ring)) (leb (0 + lineRoom) (length lines)) (omega (arith, e))
     where
       go : (b r : Bool) → 0 < cond b (cond r 0 noRoomNumber) unsoundNumber
           → asItWas (cond b (cond r 0 noRoomNumber) unsoundNumber) ws ring reply lines

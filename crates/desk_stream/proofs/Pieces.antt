@@ -67,6 +67,9 @@ module _ (at : ℕ) (last : Bool) (box : State) (s : List ℕ) where
   pub unheard-number : unheardIn at last box s .number ≡ noRecord
   unheard-number = unheard-either (λ (p : Piece). p .number ≡ noRecord) refl refl
 
+  pub unheard-text : unheardIn at last box s .text ≡ cond (unheardIn at last box s .ended) (badText at) []
+  unheard-text = unheard-either (λ (p : Piece). p .text ≡ cond (p .ended) (badText at) []) refl refl
+
   -- with a reply no longer than the desk's
   short-by : (room : ℕ) → room ≤ replyRoom → (h : Heard) → length (pieceOf room at last box s h .text) ≤ lineRoom
   short-by room l (calling k q given size) =

@@ -17,14 +17,10 @@ use Rattle.desk_records.specs.Reading.{firstMark, secondMark, lengthWidth, leng
 use Rattle.desk_kinds.proofs.Entries.{listed-short}
 use Rattle.desk_line.specs.Line.{lineRoom}
 use Rattle.desk_stream.specs.Desk.{Heard, calling, wrong, hears, deskCall}
-use Rattle.desk_stream.specs.Window.{waits, Progress, outset, roomy, served}
+use Rattle.desk_stream.specs.Window.{longest, waits, Progress, outset, roomy, served}
 use Rattle.desk_stream.proofs.Turns.{answered, broken, turns-on, turns-none, no-room, another, none}
 use Rattle.desk_stream.proofs.Answered.{window-rests}
 use Rattle.desk_stream.proofs.Hearing.{fronted, heard-whole}
-
--- the longest record: its head and 255 bytes
-abbrev pub longest : ℕ
-longest = 259
 
 -- bytes that are there are no cut, whatever they are
 there : (s : List ℕ) (i w : ℕ) (ok : Bool) (fault : Fault) (rest : Front) → i + w ≤ length s → cut (Front.Wrong fault i) ≡ false

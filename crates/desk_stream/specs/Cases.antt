@@ -3,13 +3,15 @@
 use Prim.Native.Nat.{ℕ, zero, suc}
 use Prim.Native.String.{String}
 use mathlib.Core.Path.{_≡_, refl}
+use mathlib.Core.Bool.{Bool, true, false, cond}
 use mathlib.Core.List.{List, [], _∷_, _++_}
 use lib.ListN.{replicate}
 use Rattle.rules.specs.declared.Scan.the-variants.{Scanning}
 use Rattle.rules.specs.declared.Feed.the-variants.{Unloaded}
 use Rattle.rules.specs.declared.Failure.the-variants.{None}
 use Rattle.rules.specs.Calls.{Fetch as fetching, Call, scan, State}
-use Rattle.rules.specs.Machine.{start}
+use Rattle.rules.specs.Record.{fresh}
+use Rattle.rules.specs.Machine.{start, step}
 use Rattle.rules.specs.Cases.{Case, that, final, boxed, box, scanner, job, side, settings, feed, ring, J1-001}
 use Rattle.answers.specs.declared.Request.the-variants.{Fetch}
 use Rattle.desk_text.specs.Digits.{lastDigits, hexes}
@@ -17,6 +19,9 @@ use Rattle.desk_text.specs.Literal.{text, bytes}
 use Rattle.desk_kinds.specs.Kinds.{askingOf}
 use Rattle.desk_records.specs.Cases.{reads}
 use Rattle.desk_line.specs.Line.{lineOf}
+use Rattle.stored.specs.Stored.{kept, allFit, recorded, isBox}
+use Rattle.desk_stream.specs.Window.{piece, served}
+use Rattle.desk_stream.specs.Boxed.{Came, serving, performing}
 use Rattle.desk_stream.specs.Desk.{hears, deskCall, readFrom, badText, printed, ringRoom, deskText}
 
 -- what is printed for an input, from a box and by the desk program
@@ -157,4 +162,41 @@ replies =
     that "a fetch of 255 gives 255"
     (prints (bytes "A55A 01 06 00 0001 01 000A A55A 20 FF" ++ replicate 255 0x41 ++ bytes "A55A 06 13 FF 4A303030303030303030313030312E6A7067"))
     (text "01 0 S U 1 1 1 10\n20 0 S U 1 1 1 255\n06 0 S U 1 1 1 255:" ++ times 255 (text "41") ++ text "\n") refl
+    ∷ []
+
+-- ---- what is told of a window and of one record: number, bytes read, bytes of text written, ended
+abbrev pub telling : Came → List ℕ
+telling c = c .number ∷ c .read ∷ c .written ∷ cond (c .ended) 1 0 ∷ []
+
+-- of a fresh box with a ring of eight bytes, or of numbers that are none; with so much room for lines
+unfoldable pub performs : List ℕ → List ℕ → Bool → ℕ → List ℕ
+unfolding printing bytes isBox allFit recorded kept step piece performing
+performs ws input last room = telling (performing ws (replicate 8 0) [] input 7 last (replicate room 0))
+
+unfoldable pub serves : List ℕ → List ℕ → Bool → ℕ → List ℕ
+unfolding printing bytes isBox allFit recorded kept step piece served serving
+serves ws input last room = telling (serving ws (replicate 8 0) input 7 last (replicate room 0))
+
+pub ofRecords : List (Case (List ℕ))
+unfolding performs
+ofRecords =
+    that "accepted" (performs (kept fresh) (bytes "A55A 24 00") false 640) (0 ∷ 4 ∷ 17 ∷ 0 ∷ []) refl
+    ∷ that "refused" (performs (kept fresh) (bytes "A55A 21 00") false 640) (501 ∷ 4 ∷ 19 ∷ 0 ∷ []) refl
+    ∷ that "bad, whatever may follow" (performs (kept fresh) (bytes "A55B") false 640) (0xFFFF ∷ 0 ∷ 6 ∷ 1 ∷ []) refl
+    ∷ that "only cut, more may come" (performs (kept fresh) (bytes "A55A 24") false 640) (0xFFFF ∷ 0 ∷ 0 ∷ 0 ∷ []) refl
+    ∷ that "cut, and all there is" (performs (kept fresh) (bytes "A55A 24") true 640) (0xFFFF ∷ 0 ∷ 6 ∷ 1 ∷ []) refl
+    ∷ that "nothing yet" (performs (kept fresh) [] false 640) (0xFFFF ∷ 0 ∷ 0 ∷ 0 ∷ []) refl
+    ∷ that "a byte too little for a line" (performs (kept fresh) (bytes "A55A 24 00") false 639) (603 ∷ 0 ∷ 0 ∷ 0 ∷ []) refl
+    ∷ that "no box: before all else" (performs (replicate 19 0) (bytes "A55B") false 639) (604 ∷ 0 ∷ 0 ∷ 0 ∷ []) refl
+    ∷ []
+
+pub ofWindows : List (Case (List ℕ))
+unfolding serves
+ofWindows =
+    that "two records" (serves (kept fresh) (bytes "A55A2400 A55A2100") false 1280) (0 ∷ 8 ∷ 36 ∷ 0 ∷ []) refl
+    ∷ that "one, and no room for another line" (serves (kept fresh) (bytes "A55A2400 A55A2100") false 640) (0 ∷ 4 ∷ 17 ∷ 0 ∷ []) refl
+    ∷ that "one, and a bad one" (serves (kept fresh) (bytes "A55A2400 A55B") false 1280) (0 ∷ 4 ∷ 24 ∷ 1 ∷ []) refl
+    ∷ that "one, and a cut one" (serves (kept fresh) (bytes "A55A2400 A55A") false 1280) (0 ∷ 4 ∷ 17 ∷ 0 ∷ []) refl
+    ∷ that "a byte too little for a line, also of no input" (serves (kept fresh) [] false 639) (603 ∷ 0 ∷ 0 ∷ 0 ∷ []) refl
+    ∷ that "no box: before all else" (serves (replicate 19 0) [] false 639) (604 ∷ 0 ∷ 0 ∷ 0 ∷ []) refl
     ∷ []

@@ -11,6 +11,10 @@ use Rattle.desk_records.specs.Reading.{secondMark, lengthWidth, front, cut}
 use Rattle.desk_line.specs.Line.{lineFor, lineRoom}
 use Rattle.desk_stream.specs.Desk.{Heard, calling, wrong, hears, replyRoom, callWith, badText}
 
+-- the longest record: its head and 255 bytes
+abbrev pub longest : ℕ
+longest = 259
+
 -- ---- one record's piece of the input: the number told, the box left, its size, its text, and whether the desk ends with it
 pub record Piece : Type 0 where
   pub number : ℕ
@@ -19,7 +23,7 @@ pub record Piece : Type 0 where
   pub text : List ℕ
   pub ended : Bool
 
--- where no record is answered: no number of the paper, and not 0, which is acceptance
+-- where no record reads: no number of the paper, and not 0, which is acceptance
 abbrev pub noRecord : ℕ
 noRecord = 0xFFFF
 

@@ -2,6 +2,7 @@
 use mathlib.Core.Bool.{true≢false}
 use native.Mathlib.Omega.{arith}
 use borrow.Author.Needs.{needs}
+use borrow.Author.Tests.{not-false}
 use Rattle.desk.proofs.Reading.{stepped-on, stepped-read}
 use Rattle.desk.proofs.advance.Statement.{statement}
 use Rattle.desk.proofs.advance.Tie as tie
@@ -26,7 +27,9 @@ returns c =
     ((λ _. stepped-on _ (r .1 .1 .1) (test .if1 .taken) (r .0)), (r .1 .0, (λ _. r .1 .1 .0)))
 
 read-behind-requires : tie.Need-read-behind-requires
-read-behind-requires c κs = search needs
+read-behind-requires c κs =
+    let test = c .before in
+    test .before .before .before .before .before .pre .1 (not-false _ (test .if1 .left))
 
 same-length-4 : tie.Need-same-length-4
 same-length-4 c = search needs

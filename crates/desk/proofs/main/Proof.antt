@@ -1,5 +1,6 @@
 -- A fresh record's numbers, and a ring of zeros.
 use mathlib.Core.Path.{refl, ap, _∙_}
+use native.Mathlib.Omega.{arith}
 use Rattle.stored.specs.Stored.{kept}
 use borrow.Author.Needs.{needs}
 use Rattle.desk.proofs.main.Statement.{statement}
@@ -29,7 +30,11 @@ slice-aggregate-pump-3 c = search needs
 pump-requires : tie.Need-pump-requires
 pump-requires c κs =
     let keep = c .before .before .before .before in
-    (keep .keep .ensures .0 ∙ ap kept (keep .before .fresh .ensures), refl)
+    let lines = keep .before .before .before in
+    let window = lines .before in (
+      keep .keep .ensures .0 ∙ ap kept (keep .before .fresh .ensures),
+      (refl, (omega (arith, window .large-buffer .ensures), omega (arith, lines .large-buffer2 .ensures))),
+    )
 
 returns : tie.Need-returns
 returns c = search needs

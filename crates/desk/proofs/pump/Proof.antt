@@ -4,6 +4,7 @@ use mathlib.Core.Path.{_≡_, refl}
 use borrow.Author.Needs.{needs}
 use borrow.Author.Tests.{not-true}
 use lib.ListN.{length}
+use Rattle.desk_loop.proofs.Printing.{room-to-read}
 use Rattle.desk_loop.specs.Program.{opened, Reaches, goes-on}
 use Rattle.desk.proofs.Reading.{at-outset}
 use Rattle.desk.proofs.pump.Statement.{statement}
@@ -24,10 +25,18 @@ loop-holds : tie.Need-loop-holds Inv-loop μ-loop
 loop-holds c =
     let start = c .before .before .before .before in
     let a = start .args in
-    ((refl, refl, refl), (rw (c .begin .ensures) zero-le, at-outset (a .buf .now) (a .out .now) (c .begin .ensures) (start .pre .0) (start .pre .1)))
+    ((refl, refl, refl), (rw (c .begin .ensures) zero-le, at-outset (a .buf .now) (a .out .now) (c .begin .ensures) (start .pre .0) (start .pre .1 .0)))
 
 advance-requires : tie.Need-advance-requires Inv-loop μ-loop
-advance-requires c κs = search needs
+advance-requires c κs =
+    let test = c .before .before .before .before in
+    let at = test .before .before .before in
+    let start = at .before .before .before .before .before in
+    let a = start .args in (
+      at .loop .inv .1 .0,
+      (λ w. room-to-read (a .buf .now) (a .out .now) (start .pre .1 .1 .0) (start .pre .1 .1 .1) (at .loop .inv .1 .1)
+          (not-true _ (test .if1 .taken)) w),
+    )
 
 same-length : tie.Need-same-length Inv-loop μ-loop
 same-length c = search needs

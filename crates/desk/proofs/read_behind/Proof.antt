@@ -1,7 +1,7 @@
 -- The part that the read fills is put back behind the bytes that were held.
 use native.Mathlib.Omega.{arith}
 use borrow.Author.Needs.{needs}
-use Rattle.desk.proofs.Reading.{brings, counted}
+use Rattle.desk.proofs.Reading.{lt-to-le, brings, counted}
 use Rattle.desk.proofs.read_behind.Statement.{statement}
 use Rattle.desk.proofs.read_behind.Tie as tie
 
@@ -30,7 +30,8 @@ returns : tie.Need-returns
 returns c =
     let buf = c .before .before .before .before in
     let start = buf .before .before .before .before in
-    brings (start .args .buf .now) (buf .before .read .last .1 .0) (start .args .held) (start .pre) (buf .buf .given .1) 0 (omega (arith, start .pre))
+    let inside = lt-to-le (start .pre) in
+    brings (start .args .buf .now) (buf .before .read .last .1 .0) (start .args .held) inside (buf .buf .given .1) 0 (omega (arith, inside))
 
 sub-count : tie.Need-sub-count
 sub-count c = search needs
@@ -53,8 +54,9 @@ returns-2 c =
     let start = buf .before .before .before .before in
     let part = buf .before .read .last .1 .0 in
     let long = buf .buf .given .1 in
-    brings (start .args .buf .now) part (start .args .held) (start .pre) long (c .count .result)
-    (counted (start .args .buf .now) part (start .args .held) (start .pre) long (c .count .result) (c .count .ensures .0 .0))
+    let inside = lt-to-le (start .pre) in
+    brings (start .args .buf .now) part (start .args .held) inside long (c .count .result)
+    (counted (start .args .buf .now) part (start .args .held) inside long (c .count .result) (c .count .ensures .0 .0))
 
 pub read-behind-spec : {M : Type 1} → statement M
 read-behind-spec =
