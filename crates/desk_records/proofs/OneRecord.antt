@@ -42,7 +42,7 @@ module _ (m w : ℕ) (s : List ℕ) (at : ℕ) {k start n next : ℕ} (e : readW
     (b : All Byte (take w (drop lengthAt (drop at s)))) where
   pub read-was-written-with : (take (next - at) (drop at s) ≡ recordWith m w k (partOf s start n))
       × ((out : List ℕ) → next - at ≤ length out → writingWith m w k (partOf s start n) out
-      ≡ record { number = 0; length = next - at; buffer = overlaid out 0 (take (next - at) (drop at s)) })
+      ≡ record { number = 0; long = next - at; buffer = overlaid out 0 (take (next - at) (drop at s)) })
   read-was-written-with =
       let h = stands (whole-at m w s at e) in
       let a = places m w s at e in
@@ -65,7 +65,7 @@ one-byte (b ∷ s) h = (omega arith, tt)
 pub read-was-written : (s : List ℕ) (at : ℕ) {k start n next : ℕ} → readAt s at ≡ Reading.Record k start n next
     → (take (next - at) (drop at s) ≡ recordOf k (partOf s start n))
     × ((out : List ℕ) → next - at ≤ length out → writing k (partOf s start n) out
-    ≡ record { number = 0; length = next - at; buffer = overlaid out 0 (take (next - at) (drop at s)) })
+    ≡ record { number = 0; long = next - at; buffer = overlaid out 0 (take (next - at) (drop at s)) })
 read-was-written s at {k} {start} {n} {next} e =
     let h = stands (whole-at secondMark lengthWidth s at e) in
     read-was-written-with secondMark lengthWidth s at e

@@ -46,12 +46,12 @@ module _ (m w k : ℕ) (p rest : List ℕ) where
 -- ---- behind any bytes too
 module _ (m w k : ℕ) (p pre rest out : List ℕ) (h : length p < 256 ^ w) (e : writingWith m w k p out .number ≡ 0) where
   pub written-reads-with : readWith m w (pre ++ (recordWith m w k p ++ rest)) (length pre)
-      ≡ Reading.Record k (length pre + headOf w) (length p) (length pre + writingWith m w k p out .length)
+      ≡ Reading.Record k (length pre + headOf w) (length p) (length pre + writingWith m w k p out .long)
   unfolding readWith placed
   written-reads-with =
       let a = accepted m w k p out e in
-      let n : length (recordWith m w k p) ≡ writingWith m w k p out .length = ap (λ (x : Wrote). x .length) (a .1) in
-      let z : length pre + headOf w + length p ≡ length pre + writingWith m w k p out .length = omega (arith, n, record-length m w k p) in
+      let n : length (recordWith m w k p) ≡ writingWith m w k p out .long = ap (λ (x : Wrote). x .long) (a .1) in
+      let z : length pre + headOf w + length p ≡ length pre + writingWith m w k p out .long = omega (arith, n, record-length m w k p) in
       ap (λ (x : List ℕ). placed w (length pre) (front m w x)) (drop-append-seam pre (recordWith m w k p ++ rest))
       ∙ ap (placed w (length pre)) (record-front m w k p rest h (a .0))
       ∙ ap (Reading.Record k (length pre + headOf w) (length p)) z
@@ -68,7 +68,7 @@ module _ (k : ℕ) (p pre rest out : List ℕ) (e : writing k p out .number ≡ 
   short = let l = listed-short k (length p) (accepted secondMark lengthWidth k p out e .0) in omega arith
 
   pub written-reads : readAt (pre ++ (recordOf k p ++ rest)) (length pre)
-      ≡ Reading.Record k (length pre + 4) (length p) (length pre + writing k p out .length)
+      ≡ Reading.Record k (length pre + 4) (length p) (length pre + writing k p out .long)
   written-reads = written-reads-with secondMark lengthWidth k p pre rest out short e
 
   pub written-payload : partOf (pre ++ (recordOf k p ++ rest)) (length pre + 4) (length p) ≡ p

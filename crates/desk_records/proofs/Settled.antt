@@ -41,8 +41,8 @@ written-settled a b e l =
     same-answer a b (ap (λ (x : After). x .answer) (gave-settled told .0)) l
 
 pub write-settled : (k : ℕ) (p out : List ℕ) {a b : Written} {left left′ : List ℕ}
-    (one : record { number = numberIn a; length = lengthOf a; buffer = left } ≡ writing k p out)
-    (other : record { number = numberIn b; length = lengthOf b; buffer = left′ } ≡ writing k p out) → (a ≡ b) × (left ≡ left′)
+    (one : record { number = numberIn a; long = lengthOf a; buffer = left } ≡ writing k p out)
+    (other : record { number = numberIn b; long = lengthOf b; buffer = left′ } ≡ writing k p out) → (a ≡ b) × (left ≡ left′)
 write-settled k p out {a} {b} one other =
     let same = one ∙ sym other in
-    (written-settled a b (ap (λ (x : Wrote). x .number) same) (ap (λ (x : Wrote). x .length) same), ap (λ (x : Wrote). x .buffer) same)
+    (written-settled a b (ap (λ (x : Wrote). x .number) same) (ap (λ (x : Wrote). x .long) same), ap (λ (x : Wrote). x .buffer) same)

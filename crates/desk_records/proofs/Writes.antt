@@ -35,7 +35,7 @@ pub record-length : (m w k : ℕ) (p : List ℕ) → length (recordWith m w k p)
 record-length m w k p = simp (length-append, length-bytes) (omega arith)
 
 pub same-wrote : {n m : ℕ} {x y : List ℕ} → n ≡ m → x ≡ y
-    → _≡_ {A = Wrote} (record { number = 0; length = n; buffer = x }) (record { number = 0; length = m; buffer = y })
+    → _≡_ {A = Wrote} (record { number = 0; long = n; buffer = x }) (record { number = 0; long = m; buffer = y })
 same-wrote e f = rw (e, f)
 
 module _ (m w k : ℕ) (p out : List ℕ) where
@@ -60,7 +60,7 @@ module _ (m w k : ℕ) (p out : List ℕ) where
 
     -- what was put is whole
     pub told-0 : {x : Wrote} {r : ℕ} {o₁ : List ℕ} → not t ≡ false → headOf w + length p ≤ length out → Puts out 0 (recordWith m w k p) r o₁
-        → x ≡ record { number = 0; length = r; buffer = o₁ } → x ≡ writingWith m w k p out
+        → x ≡ record { number = 0; long = r; buffer = o₁ } → x ≡ writingWith m w k p out
     told-0 h l put q =
         let room : 0 + length (recordWith m w k p) ≤ length out = omega (arith, record-length m w k p) in
         q ∙ same-wrote (whole-next room put ∙ zero-add _) (whole-stands room put) ∙ writes (went-on _ t asked h) l

@@ -118,7 +118,7 @@ records =
     ∷ []
 
 abbrev pub wrote : ℕ → ℕ → List ℕ → Wrote
-wrote number long buffer = record { number = number; length = long; buffer = buffer }
+wrote number long buffer = record { number = number; long = long; buffer = buffer }
 
 pub writings : List (Case Wrote)
 unfolding writes

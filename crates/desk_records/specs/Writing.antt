@@ -35,16 +35,16 @@ lengthOf (Written.Refused why) = 0
 -- what writing comes to: the number and the length that it tells, and the buffer as it is left
 pub record Wrote : Type 0 where
   pub number : ℕ
-  pub length : ℕ
+  pub long : ℕ
   pub buffer : List ℕ
 
 -- fills the front of a lent buffer and gives the length
 abbrev pub wroteAll : List ℕ → List ℕ → Wrote
-wroteAll text out = record { number = 0; length = length text; buffer = overlaid out 0 text }
+wroteAll text out = record { number = 0; long = length text; buffer = overlaid out 0 text }
 
 -- a refusal leaves all as it was, and reports no length
 abbrev pub wroteNone : Reason → List ℕ → Wrote
-wroteNone why out = record { number = numberOf why; length = 0; buffer = out }
+wroteNone why out = record { number = numberOf why; long = 0; buffer = out }
 
 -- 601 is a kind or payload length not listed; then 603 a buffer too short
 unfoldable pub writingWith : ℕ → ℕ → ℕ → List ℕ → List ℕ → Wrote

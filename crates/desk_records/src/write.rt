@@ -34,7 +34,7 @@ fn write_with(out: &mut [u8], mark: u8, width: usize, kind: u8, body: &[u8]) -> 
     requires { ⌜ (1 ≤ width) × (width ≤ 2) ⌝ }
     ensures { λ r. ⌜ record {
       number = numberIn r;
-      length = lengthOf r;
+      long = lengthOf r;
       buffer = now (out .exit);
     }
         ≡ writingWith mark width kind (now (body .entry)) (now (out .entry)) ⌝ }
@@ -54,7 +54,7 @@ fn write_with(out: &mut [u8], mark: u8, width: usize, kind: u8, body: &[u8]) -> 
 pub fn write(out: &mut [u8], kind: u8, body: &[u8]) -> Written
     ensures { λ r. ⌜ record {
       number = numberIn r;
-      length = lengthOf r;
+      long = lengthOf r;
       buffer = now (out .exit);
     }
         ≡ writing kind (now (body .entry)) (now (out .entry)) ⌝ }
