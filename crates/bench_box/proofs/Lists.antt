@@ -79,18 +79,16 @@ module _ (ws ring : List ℕ) (box : isBox ws (length ring) ≡ true) where
 
     window-short : One s call (toHost (asItWas noRoomNumber ws ring [] lines))
     unfolding readFrom runBy
-    window-short = record { told = no-lines refl refl; left = refl }
+    window-short = record { told = no-lines refl (refl, refl); left = refl }
 
     window-whole : One s call (toHost (windowed lines (served offset last (length lines) 0 (outset s) input)))
     window-whole =
         let q = served offset last (length lines) 0 (outset s) input in
         let i = readFrom 0 offset (take (q .place) input) in
         let said = linesOf (i .kinds) (run s (i .calls) .outcomes) in
+        let text = window-said offset last (length lines) s input ∙ ap (λ (t : List ℕ). said ++ t) (flagged (q .ended) (badText (offset + q .place))) in
         record {
-          told =
-              in-lines refl
-              (ap (overlaid lines 0)
-              (window-said offset last (length lines) s input ∙ ap (λ (t : List ℕ). said ++ t) (flagged (q .ended) (badText (offset + q .place)))));
+          told = in-lines refl (ap (overlaid lines 0) text, ap length text);
           left = same-box (q .box) ∙ window-ran offset last (length lines) s input;
         }
 
@@ -120,15 +118,15 @@ module _ (ws ring : List ℕ) (box : isBox ws (length ring) ≡ true) where
     record-short : One s one (toHost (asItWas noRoomNumber ws ring reply line))
     record-short =
         nothing-asked (toHost (asItWas noRoomNumber ws ring reply line)) refl refl
-        (not-at-all short refl (sym (ap (overlaid line 0) (take-nil (length line - 0)))))
+        (not-at-all short refl (sym (ap (overlaid line 0) (take-nil (length line - 0))), sym (ap length (take-nil {A = ℕ} (length line - 0)))))
 
     unanswered : (p : Piece) → p .number ≡ noRecord → p .size ≡ 0 → p .box ≡ s → p .text ≡ cond (p .ended) (badText offset) [] → Saying p reply
     unanswered p n z b t =
         let at : badText offset ≡ badText (offset + p .size) = ap badText (sym (add-zero offset) ∙ ap (λ (i : ℕ). offset + i) (sym z)) in
+        let text = t ∙ ap (λ (x : List ℕ). cond (p .ended) x []) at ∙ flagged (p .ended) (badText (offset + p .size)) in
         nothing-asked (toHost (saying p reply line)) z (same-box (p .box) ∙ b)
         (not-at-all (subst Unanswered (sym n) none-reads) refl
-        (ap (λ (x : List ℕ). overlaid line 0 (fitting line 0 x))
-        (t ∙ ap (λ (x : List ℕ). cond (p .ended) x []) at ∙ flagged (p .ended) (badText (offset + p .size)))))
+        (ap (λ (x : List ℕ). overlaid line 0 (fitting line 0 x)) text, ap (λ (x : List ℕ). length (fitting line 0 x)) text))
 
     answered : (k : ℕ) (q : Request) (given : List ℕ) (size : ℕ) → hears input ≡ calling k q given size
         → Saying (answeredBy k (step s (callWith (length reply) q given)) size) (replied (asked q given reply) (step s (asked q given reply)) reply)
@@ -140,12 +138,13 @@ module _ (ws ring : List ℕ) (box : isBox ws (length ring) ≡ true) where
         let same : bare o' ≡ bare o = reply-alike s q given (replicate (length reply) 0) reply (length-replicate (length reply) 0) in
         let heard : hears (take size input) ≡ calling k q given size =
         heard-alone (take size input) (drop size input) (ap hears (take-append-drop size input) ∙ h) (omega (arith, length-take size input, x .inside)) in
+        let text : lineFor k o' ≡ lineFor k o = ap (λ (b : Bare). lineOf k (b .number) (b .values) (b .state .box)) same in
         let l = toHost (saying (answeredBy k o' size) (replied (asked q given reply) o reply) line) in
         record {
           told =
               subst (λ (a : Heard). Told one l (run s (askedIn reply a) .outcomes)) (sym heard)
               (by-number {l = l} heard (ap (λ (b : Bare). b .number) same) refl
-              (ap (λ (b : Bare). overlaid line 0 (fitting line 0 (lineOf k (b .number) (b .values) (b .state .box)))) same));
+              (ap (λ (x : List ℕ). overlaid line 0 (fitting line 0 x)) text, ap (λ (x : List ℕ). length (fitting line 0 x)) text));
           left =
               same-box (o' .state)
               ∙ ap (λ (b : Bare). b .state) same

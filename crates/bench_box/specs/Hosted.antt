@@ -56,6 +56,9 @@ ringLeft ring (l ∷ ls) = ringLeft (l .ring) ls
 abbrev pub readOf : Left → ℕ
 readOf l = getD (l .progress) 0 0
 
+abbrev pub writtenOf : Left → ℕ
+writtenOf l = getD (l .progress) 1 0
+
 abbrev pub endedOf : Left → ℕ
 endedOf l = getD (l .progress) 2 0
 
@@ -84,21 +87,25 @@ pub data Unanswered : ℕ → Type 0 where
 abbrev pub badBehind : ℕ → Left → List ℕ
 badBehind offset l = cond (eqb (endedOf l) 1) (badText (offset + readOf l)) []
 
+-- a text stands at the front of the lines that were lent, and its length is told
+abbrev pub Says : List ℕ → List ℕ → Left → Type 0
+Says lines text l = (l .lines ≡ overlaid lines 0 text) × (writtenOf l ≡ length text)
+
 pub data Told : HostCall → Left → List Outcome → Type 0 where
   -- a window: a line for each, and the bad line if it ended there
   in-lines : {input lines : List ℕ} {offset : ℕ} {last : Bool} {l : Left} {os : List Outcome} → l .number ≡ 0
-      → l .lines ≡ overlaid lines 0 (linesOf (readFrom 0 offset (take (readOf l) input) .kinds) os ++ badBehind offset l)
+      → Says lines (linesOf (readFrom 0 offset (take (readOf l) input) .kinds) os ++ badBehind offset l) l
       → Told (serves input offset last lines) l os
   -- or none at all, where the lines are too short
-  no-lines : {input lines : List ℕ} {offset : ℕ} {last : Bool} {l : Left} → l .number ≡ noRoomNumber → l .lines ≡ lines
+  no-lines : {input lines : List ℕ} {offset : ℕ} {last : Bool} {l : Left} → l .number ≡ noRoomNumber → Says lines [] l
       → Told (serves input offset last lines) l []
   -- a record: its number, its reply and its line
   by-number : {reply input line given : List ℕ} {offset k size : ℕ} {last : Bool} {q : Request} {l : Left} {o : Outcome}
       → hears (take (readOf l) input) ≡ calling k q given size → l .number ≡ o .number → l .reply ≡ replied (asked q given reply) o reply
-      → l .lines ≡ overlaid line 0 (fitting line 0 (lineFor k o)) → Told (performs reply input offset last line) l (o ∷ [])
+      → Says line (fitting line 0 (lineFor k o)) l → Told (performs reply input offset last line) l (o ∷ [])
   -- none: its number says so, the reply is as it was, and the lines have the bad line if it ended there
   not-at-all : {reply input line : List ℕ} {offset : ℕ} {last : Bool} {l : Left} → Unanswered (l .number) → l .reply ≡ reply
-      → l .lines ≡ overlaid line 0 (fitting line 0 (badBehind offset l)) → Told (performs reply input offset last line) l []
+      → Says line (fitting line 0 (badBehind offset l)) l → Told (performs reply input offset last line) l []
   -- a second
   by-tick : {l : Left} {o : Outcome} → l .number ≡ o .number → Told ticks l (o ∷ [])
 
