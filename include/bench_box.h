@@ -35,11 +35,11 @@ extern "C" {
  *
  * A record begins with a version number, which a later layout changes. A record kept under another version is answered
  * like any that is no record: 604, and nothing changes. So a host that keeps records over a change of the library starts
- * with a fresh one.
+ * with a fresh one. Version 2 keeps the last name that any job held; a record of version 1, which does not, is none.
  */
-#define BENCH_BOX_VERSION_NUMBER 1
-#define BENCH_BOX_WORDS 19
-#define BENCH_BOX_SIZE 152
+#define BENCH_BOX_VERSION_NUMBER 2
+#define BENCH_BOX_WORDS 23
+#define BENCH_BOX_SIZE 184
 #define BENCH_BOX_ALIGN 8
 typedef struct bench_box {
     uint64_t words[BENCH_BOX_WORDS];
@@ -177,7 +177,15 @@ enum bench_box_feeder_state {
 };
 enum bench_box_failure { BENCH_BOX_FAILURE_NONE = 0, BENCH_BOX_FAILURE_JAMMED = 1, BENCH_BOX_FAILURE_TIMEOUT = 2 };
 
-/* What the box is doing, part by part of the record. */
+/*
+ * What the box is doing, part by part of the record.
+ *
+ * DestinationID follows the name, so a host that fetches afresh whenever it rises does so once for each name. It rises
+ * by one (4294967295 goes to 0) exactly when the name differs from the last name that any job held: for a new job, of no
+ * sides yet too; and with Append 1 whenever a side is drained and the job goes on, no side to follow yet too. With Append
+ * 0 the name stays through a job, and so does the number. A side begun again after a jam keeps its name, and its number. The
+ * last name is remembered while no job is held; no question asks for it.
+ */
 enum bench_box_question {
     BENCH_BOX_VERSION = 0, /* always BENCH_BOX_VERSION_NUMBER */
 
@@ -195,7 +203,7 @@ enum bench_box_question {
     /* the side */
     BENCH_BOX_SIDE_NUMBER = 8,
     BENCH_BOX_SIDE_COUNT = 9, /* -1 as 4294967295: cast to int32_t */
-    BENCH_BOX_DESTINATION = 10,
+    BENCH_BOX_DESTINATION = 10, /* DestinationID */
 
     /* the settings */
     BENCH_BOX_USE_FEEDER = 11,

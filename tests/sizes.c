@@ -1,7 +1,7 @@
 /*
  * What the header states, as a host meets it: sizes, every kind, number and state by its name, the reply's layout and how
  * the last bytes of a side are told, what is told where no record reads or a line has no room, the stack, box records that
- * are none; and that no function writes outside the box record.
+ * are none, the last name; and that no function writes outside the box record.
  */
 #define _DEFAULT_SOURCE
 
@@ -16,10 +16,13 @@
 _Static_assert(sizeof(bench_box) == BENCH_BOX_SIZE, "the record's size");
 _Static_assert(alignof(bench_box) == BENCH_BOX_ALIGN, "the record's alignment");
 _Static_assert(sizeof(bench_box) == BENCH_BOX_WORDS * sizeof(uint64_t), "the record's words");
-_Static_assert(BENCH_BOX_STORED == BENCH_BOX_WORDS - 1, "a question for each word");
+_Static_assert(BENCH_BOX_STORED == BENCH_BOX_WORDS - 5, "a question for each word but the last name's four");
 _Static_assert(sizeof(size_t) == sizeof(uint64_t), "lengths of 64 bits");
 
-enum { GUARD = 0xC3, RING = 4096 };
+enum { GUARD = 0xC3, RING = 4096, QUESTIONS = BENCH_BOX_STORED + 1 };
+
+/* The last name's words: bytes by eight, eight and two, the first highest, and the length. */
+enum { NAME_FIRST = QUESTIONS, NAME_SECOND, NAME_THIRD, NAME_LENGTH };
 
 /* A record between guards. */
 struct guarded {
@@ -242,7 +245,7 @@ static void shift(void)
            "two bytes, and not the last");
     expect(perform(BENCH_BOX_KIND_FETCH, "FF" NAME_1) == BENCH_BOX_ACCEPTED &&
                memcmp(reply, "\xA5\x5A\x06\x01" "C\xC3", 6) == 0 && strcmp(line, "06 0 S B 1 2 1 1!:43") == 0 &&
-               ask(BENCH_BOX_SCAN_STATE) != BENCH_BOX_SCAN_FINISHING,
+               ask(BENCH_BOX_SCAN_STATE) != BENCH_BOX_SCAN_FINISHING && ask(BENCH_BOX_DESTINATION) == 2,
            "one byte, the last");
 
     /* A jam in the second side, its end by time, and what is left. */
@@ -256,6 +259,8 @@ static void shift(void)
     expect(perform(BENCH_BOX_KIND_START, "00000001000000") == BENCH_BOX_ACCEPTED &&
                ask(BENCH_BOX_SCAN_STATE) == BENCH_BOX_SCAN_PENDING,
            "Start of no side");
+    expect(perform(BENCH_BOX_KIND_START, "00000001000001") == BENCH_BOX_ACCEPTED && ask(BENCH_BOX_DESTINATION) == 2,
+           "the number of a side begun again");
     expect(perform(BENCH_BOX_KIND_GET_SIDE_INFORMATION, "") == BENCH_BOX_ACCEPTED, "GetSideInformation");
     for (int second = 1; second <= 5; second++) {
         expect(perform(BENCH_BOX_KIND_TICK, "") == BENCH_BOX_ACCEPTED &&
@@ -270,8 +275,9 @@ static void shift(void)
            "Reset");
     expect(perform(BENCH_BOX_KIND_GET_FEEDER_MODE, "") == BENCH_BOX_ACCEPTED && strcmp(line, "15 0 I U 0 1 0 Simplex") == 0,
            "GetFeederMode");
-    expect(perform(BENCH_BOX_KIND_START_SCAN, "000000010000") == BENCH_BOX_ACCEPTED &&
-               perform(BENCH_BOX_KIND_ABORT, "00000002") == BENCH_BOX_ACCEPTED && ask(BENCH_BOX_JOB) == 0,
+    expect(perform(BENCH_BOX_KIND_START_SCAN, "000000010000") == BENCH_BOX_ACCEPTED && ask(BENCH_BOX_DESTINATION) == 3 &&
+               perform(BENCH_BOX_KIND_ABORT, "00000002") == BENCH_BOX_ACCEPTED && ask(BENCH_BOX_JOB) == 0 &&
+               ask(BENCH_BOX_DESTINATION) == 3,
            "Abort");
     expect(perform(BENCH_BOX_KIND_FETCH, "FF" NAME_2) == BENCH_BOX_WRONG_NAME, "a fetch after the end");
 }
@@ -417,6 +423,51 @@ static void no_box(const bench_box *none, const char *name)
     }
 }
 
+/* A last name: in Idle any that fits, else no record; while a job is held, that job's. */
+static void last_names(void)
+{
+    const uint64_t right[] = {0x4A30303030303030, 0x3030313030312E6A, 0x7067, 18}; /* J0000000001001.jpg */
+    const struct {
+        int word;
+        uint64_t least;
+    } too_much[] = {{NAME_THIRD, 65536}, {NAME_LENGTH, 19}};
+    bench_box changed;
+    bench_box_fresh(&box);
+    for (int word = NAME_FIRST; word <= NAME_LENGTH; word++) {
+        expect(box.words[word] == 0, "a fresh last name");
+    }
+    box.words[NAME_FIRST] = box.words[NAME_SECOND] = UINT64_MAX;
+    for (size_t place = 0; place < sizeof too_much / sizeof too_much[0]; place++) {
+        changed = box;
+        changed.words[too_much[place].word] = too_much[place].least;
+        no_box(&changed, "a last name that does not fit");
+        box.words[too_much[place].word] = too_much[place].least - 1;
+    }
+    expect(bench_box_tick(&box, RING) == 0, "any last name in Idle");
+    expect(perform(BENCH_BOX_KIND_START_SCAN, "000000010000") == BENCH_BOX_ACCEPTED &&
+               memcmp(box.words + NAME_FIRST, right, sizeof right) == 0 && ask(BENCH_BOX_DESTINATION) == 1,
+           "the last name of a job");
+    for (int bit = 0; bit < 8 * 18; bit++) {
+        changed = box;
+        changed.words[NAME_FIRST + bit / 64] ^= UINT64_C(1) << bit % 64;
+        no_box(&changed, "another last name while a job is held");
+    }
+    for (uint64_t length = 0; length < 18; length++) {
+        changed = box;
+        changed.words[NAME_LENGTH] = length;
+        no_box(&changed, "a last name of another length while a job is held");
+    }
+
+    /* The last name, remembered in Idle, is the one that StartScan gives: in a box that other hands have kept. */
+    expect(perform(BENCH_BOX_KIND_ABORT, "00000001") == BENCH_BOX_ACCEPTED &&
+               memcmp(box.words + NAME_FIRST, right, sizeof right) == 0,
+           "the last name in Idle");
+    box.words[BENCH_BOX_LAST_JOB] = UINT32_MAX;
+    expect(perform(BENCH_BOX_KIND_START_SCAN, "000000010000") == BENCH_BOX_ACCEPTED && ask(BENCH_BOX_JOB) == 1 &&
+               ask(BENCH_BOX_DESTINATION) == 1,
+           "the same name again");
+}
+
 int main(int count, char **words)
 {
     struct guarded a, b;
@@ -425,6 +476,7 @@ int main(int count, char **words)
     deepest = 0; /* the first calls also bring memcpy in */
     shift();
     no_record_answered();
+    last_names();
     other_functions();
     expect(plain || (deepest > 0 && deepest <= BENCH_BOX_STACK_MOST), "the stack that a call takes");
     memset(&a, GUARD, sizeof a);
@@ -445,10 +497,13 @@ int main(int count, char **words)
         [BENCH_BOX_USE_FEEDER] = 1,
         [BENCH_BOX_APPEND] = 1,
     };
-    for (size_t question = 0; question < BENCH_BOX_WORDS; question++) {
+    expect(memcmp(a.box.words, fresh, sizeof fresh) == 0, "a fresh record's words");
+    for (size_t question = 0; question < QUESTIONS; question++) {
         expect(bench_box_ask(&a.box, RING, question) == fresh[question], "a fresh record's answer");
     }
-    expect(bench_box_ask(&a.box, RING, BENCH_BOX_WORDS) == BENCH_BOX_NONE, "the answer to no question");
+    for (size_t question = QUESTIONS; question <= BENCH_BOX_WORDS; question++) {
+        expect(bench_box_ask(&a.box, RING, question) == BENCH_BOX_NONE, "the answer to no question");
+    }
 
     expect(bench_box_tick(&a.box, RING) == 0, "tick of a fresh record");
     expect(is_guarded(&a), "tick writes outside the record");
@@ -461,7 +516,8 @@ int main(int count, char **words)
     memset(&b.box, 0xFF, sizeof b.box);
     b.box.words[BENCH_BOX_VERSION] = BENCH_BOX_VERSION_NUMBER;
     no_box(&b.box, "nonsense");
-    const uint64_t versions[] = {0, BENCH_BOX_VERSION_NUMBER + 1, UINT64_C(1) << 32 | BENCH_BOX_VERSION_NUMBER, UINT64_MAX};
+    const uint64_t versions[] = {0, BENCH_BOX_VERSION_NUMBER - 1, BENCH_BOX_VERSION_NUMBER + 1,
+                                 UINT64_C(1) << 32 | BENCH_BOX_VERSION_NUMBER, UINT64_MAX};
     for (size_t place = 0; place < sizeof versions / sizeof versions[0]; place++) {
         b.box = a.box;
         b.box.words[BENCH_BOX_VERSION] = versions[place];

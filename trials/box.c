@@ -87,7 +87,7 @@ struct answer {
     uint32_t ring_length;
 };
 
-_Static_assert(sizeof(struct batch) == 16 && sizeof(struct operation) == 72 && sizeof(struct answer) == 208,
+_Static_assert(sizeof(struct batch) == 16 && sizeof(struct operation) == 72 && sizeof(struct answer) == 240,
                "no padding: the other end has the same layout");
 _Static_assert(sizeof(bench_box) == BENCH_BOX_SIZE && _Alignof(bench_box) == BENCH_BOX_ALIGN,
                "a box is as the header says");

@@ -35,10 +35,25 @@
     X(refused_sign)       /* a refused Stop is a sign of life */                                                       \
     X(ring_elsewhere)     /* Bytes change another byte of the ring */                                                  \
     X(asked_wrongly)      /* a question gets the wrong answer where a job is held */                                   \
-    X(asked_too_far)      /* one question more gets an answer */                                                       \
+    X(asked_too_far)      /* a question more than there are words gets an answer */                                    \
+    X(asked_name)         /* a question gets the last name's length */                                                 \
     X(asked_high)         /* question 2^32 is taken for 0 */                                                           \
     X(longest_ring)       /* a ring of 65,536 is never quite full */                                                   \
     X(destination_wrap)   /* DestinationID 4,294,967,295 goes to 1 */                                                  \
+    X(side_rises)         /* DestinationID rises at each side with Append 0 */                                         \
+    X(start_rises)        /* it rises at a side that Start begins */                                                   \
+    X(jam_rises)          /* it rises at Start after a jam */                                                          \
+    X(end_rises)          /* it rises in the drain step that ends a job */                                             \
+    X(end_renames)        /* the last name moves in the drain step that ends a job */                                  \
+    X(pending_stays)      /* it does not rise in a drain step to Pending */                                            \
+    X(erred_stays)        /* it does not rise in a drain step to Erred */                                              \
+    X(zero_stays)         /* it does not rise at StartScan with SideCount 0 */                                         \
+    X(stored_not_raised)  /* StartScan stores the last name, and the number does not rise */                           \
+    X(job_rises)          /* it rises at StartScan though the name is the last one */                                  \
+    X(idle_forgets)       /* the last name is forgotten in Idle */                                                     \
+    X(lengths_compared)   /* names of one length are taken for the same */                                             \
+    X(length_ignored)     /* names are compared but for their lengths */                                               \
+    X(tail_ignored)       /* names are compared but for their last two bytes */                                        \
     X(far_offset)         /* bad lines beyond 2^32 are off by one */                                                   \
     X(lower_case)         /* a hex digit in lower case */                                                              \
     X(not_last)           /* last is not heeded by serve */                                                            \
@@ -61,7 +76,13 @@
     X(null_input)         /* a NULL input is answered by nothing */                                                    \
     X(null_reply)         /* a NULL reply is read */                                                                   \
     X(loose_sound)        /* quiet may be as much as granted */                                                        \
-    X(later_version)      /* a record of version 2 is taken for one of version 1 */                                    \
+    X(loose_name)         /* while a job is held the last two bytes of the last name may be any */                     \
+    X(loose_length)       /* while a job is held the length of the last name may be any */                             \
+    X(idle_name)          /* in Idle the last name must be empty */                                                    \
+    X(long_name)          /* a last name may have 19 bytes */                                                          \
+    X(wide_name)          /* the last name's third word may have more than 16 bits */                                  \
+    X(later_version)      /* a record of version 3 is taken for one of version 2 */                                    \
+    X(earlier_version)    /* a record of version 1 is taken for one of version 2 */                                    \
     X(short_version)      /* only 32 bits of the version are read */                                                   \
     X(asked_version)      /* what is no record tells its version */                                                    \
     X(fresh_keeps)        /* fresh keeps the tray */                                                                   \
@@ -96,7 +117,17 @@ enum {
     TRAY = BENCH_BOX_TRAY,
     START = BENCH_BOX_START,
     STORED = BENCH_BOX_STORED,
+    SCAN = BENCH_BOX_SCAN_STATE,
+    APPEND = BENCH_BOX_APPEND,
+    /* The last name has no question: bytes by eight, eight and two, the first highest, and its length. */
+    NAME_FIRST = STORED + 1,
+    NAME_SECOND,
+    NAME_THIRD,
+    NAME_LENGTH,
 };
+
+/* The last name of a job has these. */
+enum { NAMED_THIRD = 0x7067, NAMED_LENGTH = 18, BARE_LENGTH = 15 };
 
 static enum wrong wrong(void)
 {
@@ -145,15 +176,36 @@ static void spoil_box(bench_box *box)
     }
 }
 
-/* Some take for sound what is not. */
+/* Some take for sound what is not, or the other way round. */
 static void loosen(bench_box *box)
 {
     uint64_t *words = box->words;
-    if (wrong() == loose_sound && words[GRANTED] > 5 && words[QUIET] == words[GRANTED]) {
+    bool held = words[JOB] != 0, numbered = words[APPEND] == 1;
+    if (wrong() == loose_name && held && words[NAME_THIRD] <= UINT16_MAX) {
+        words[NAME_THIRD] = numbered ? NAMED_THIRD : 0;
+    } else if (wrong() == loose_length && held && words[NAME_LENGTH] <= NAMED_LENGTH) {
+        words[NAME_LENGTH] = numbered ? NAMED_LENGTH : BARE_LENGTH;
+    } else if (wrong() == idle_name && !held && words[NAME_LENGTH] > 0) {
+        words[NAME_LENGTH] = UINT64_MAX;
+    } else if (wrong() == long_name && words[NAME_LENGTH] == NAMED_LENGTH + 1) {
+        words[NAME_LENGTH] = NAMED_LENGTH;
+    } else if (wrong() == wide_name) {
+        words[NAME_THIRD] &= UINT16_MAX;
+    } else if (wrong() == loose_sound && words[SCAN] != BENCH_BOX_SCAN_ERRED && words[GRANTED] > 5 &&
+               words[QUIET] == words[GRANTED]) {
         words[QUIET]--;
     } else if ((wrong() == later_version && words[VERSION] == BENCH_BOX_VERSION_NUMBER + 1) ||
+               (wrong() == earlier_version && words[VERSION] == BENCH_BOX_VERSION_NUMBER - 1) ||
                (wrong() == short_version && (uint32_t)words[VERSION] == BENCH_BOX_VERSION_NUMBER)) {
         words[VERSION] = BENCH_BOX_VERSION_NUMBER;
+    }
+}
+
+/* What is not sound for all that is as it was. */
+static void tighten(bench_box *box, const bench_box *was, uint16_t number)
+{
+    if (number == BENCH_BOX_UNSOUND) {
+        *box = *was;
     }
 }
 
@@ -168,8 +220,10 @@ void broken_fresh(bench_box *box)
 
 uint16_t broken_tick(bench_box *box, size_t ring_length)
 {
+    const bench_box was = *box;
     loosen(box);
     uint16_t number = bench_box_tick(box, ring_length);
+    tighten(box, &was, number);
     spoil_box(box);
     if (wrong() == tick_300 && number == 0 && box->words[QUIET] == 300) {
         box->words[QUIET] = 299;
@@ -215,6 +269,77 @@ static void spoil_record(const struct lent *lent, uint8_t kind, uint16_t number)
         words[DESTINATION] = 1;
     }
     fetched = kind == BENCH_BOX_KIND_FETCH && number == 0 && before[STORED] > words[STORED];
+}
+
+/* The three digits of a side in the last name's second word. */
+static uint64_t side_digits(uint64_t side)
+{
+    return ('0' + side / 100) << 32 | ('0' + side / 10 % 10) << 24 | ('0' + side % 10) << 16;
+}
+
+/* What is wrong with DestinationID and the last name, where a call answers one record. */
+static void spoil_destination(const struct lent *lent, uint8_t kind)
+{
+    uint64_t *words = lent->box->words, raised = (uint32_t)(lent->before.words[DESTINATION] + 1);
+    const uint64_t *before = lent->before.words;
+    bool same_length = words[NAME_LENGTH] == before[NAME_LENGTH], same_third = words[NAME_THIRD] == before[NAME_THIRD];
+    bool same_front = memcmp(words + NAME_FIRST, before + NAME_FIRST, 2 * sizeof words[0]) == 0;
+    bool granted = before[JOB] == 0 && words[JOB] != 0, ended = before[JOB] != 0 && words[JOB] == 0;
+    bool drains = kind == BENCH_BOX_KIND_FETCH || kind == BENCH_BOX_KIND_SIDE_ENDED;
+    bool drained = drains && words[JOB] != 0 && words[SIDE_NUMBER] != before[SIDE_NUMBER];
+    bool begun = words[SCAN] == BENCH_BOX_SCAN_SCANNING && (drained || before[SCAN] != words[SCAN]) && !granted;
+    bool started = begun && kind == BENCH_BOX_KIND_START;
+    switch (wrong()) {
+    case side_rises:
+        words[DESTINATION] = begun && words[APPEND] == 0 ? raised : words[DESTINATION];
+        break;
+    case start_rises:
+        words[DESTINATION] = started ? raised : words[DESTINATION];
+        break;
+    case jam_rises:
+        words[DESTINATION] = started && before[SCAN] == BENCH_BOX_SCAN_ERRED ? raised : words[DESTINATION];
+        break;
+    case end_rises:
+        words[DESTINATION] = ended && drains ? raised : words[DESTINATION];
+        break;
+    case end_renames:
+        if (ended && drains && words[APPEND] == 1) {
+            words[NAME_SECOND] &= ~(UINT64_C(0xFFFFFF) << 16);
+            words[NAME_SECOND] |= side_digits((before[SIDE_NUMBER] + 1) % 1000);
+        }
+        break;
+    case pending_stays:
+        words[DESTINATION] = drained && words[SCAN] == BENCH_BOX_SCAN_PENDING ? before[DESTINATION] : words[DESTINATION];
+        break;
+    case erred_stays:
+        words[DESTINATION] = drained && words[SCAN] == BENCH_BOX_SCAN_ERRED ? before[DESTINATION] : words[DESTINATION];
+        break;
+    case zero_stays:
+        words[DESTINATION] = granted && words[SCAN] == BENCH_BOX_SCAN_PENDING ? before[DESTINATION] : words[DESTINATION];
+        break;
+    case stored_not_raised:
+        words[DESTINATION] = granted ? before[DESTINATION] : words[DESTINATION];
+        break;
+    case job_rises:
+        words[DESTINATION] = granted ? raised : words[DESTINATION];
+        break;
+    case idle_forgets:
+        if (ended) {
+            memset(words + NAME_FIRST, 0, 4 * sizeof words[0]);
+        }
+        break;
+    case lengths_compared:
+        words[DESTINATION] = granted && same_length ? before[DESTINATION] : words[DESTINATION];
+        break;
+    case length_ignored:
+        words[DESTINATION] = granted && same_front && same_third ? before[DESTINATION] : words[DESTINATION];
+        break;
+    case tail_ignored:
+        words[DESTINATION] = granted && same_front && same_length ? before[DESTINATION] : words[DESTINATION];
+        break;
+    default:
+        break;
+    }
 }
 
 static void spoil_text(const struct lent *lent)
@@ -306,6 +431,9 @@ static void spoil(const struct lent *lent, uint16_t number)
     if (number != BENCH_BOX_UNSOUND && lent->progress->read > 0) {
         spoil_record(lent, kind, number);
     }
+    if (number == 0 && lent->progress->read > 0 && lent->progress->read == 4 + (size_t)lent->input[3]) {
+        spoil_destination(lent, kind);
+    }
     spoil_text(lent);
     spoil_memory(lent, number);
     if (wrong() == null_input && lent->input == NULL && number == BENCH_BOX_NO_RECORD) {
@@ -383,6 +511,7 @@ uint16_t broken_perform(bench_box *box, uint8_t *ring, size_t ring_length, uint8
 {
     static uint8_t longer[BENCH_BOX_LINE_MOST], before[BENCH_BOX_LINE_MOST];
     size_t room = room_for(line_length);
+    const bench_box was = *box;
     loosen(box);
     const struct lent lent = {box,          *box,   ring, ring_length, reply,    reply_length, input,
                               input_length, offset, line, line_length, progress, *progress};
@@ -392,6 +521,7 @@ uint16_t broken_perform(bench_box *box, uint8_t *ring, size_t ring_length, uint8
     uint16_t number =
         bench_box_perform(box, ring, ring_length, reply, reply_length, input, input_length, offset,
                           heard(last, true, input_length), room > line_length ? longer : line, room, progress);
+    tighten(box, &was, number);
     if (room > line_length) {
         memcpy(line, longer, progress->written);
     }
@@ -408,12 +538,14 @@ uint16_t broken_serve(bench_box *box, uint8_t *ring, size_t ring_length, const u
     static uint8_t longer[BENCH_BOX_LINE_MOST];
     uint8_t none[2] = {0, 0};
     size_t room = room_for(lines_length);
+    const bench_box was = *box;
     loosen(box);
     const struct lent lent = {box,          *box,   ring,  ring_length,  none + 1, 0,        input,
                               input_length, offset, lines, lines_length, progress, *progress};
     uint16_t number =
         bench_box_serve(box, ring, ring_length, input, input_length, offset, heard(last, false, input_length),
                         room > lines_length ? longer : lines, room, progress);
+    tighten(box, &was, number);
     if (room > lines_length) {
         memcpy(lines, longer, progress->written);
     }
@@ -428,7 +560,10 @@ uint64_t broken_ask(const bench_box *box, size_t ring_length, size_t question)
         return value + (box->words[JOB] > 1);
     }
     if (wrong() == asked_too_far && question == BENCH_BOX_WORDS && value == BENCH_BOX_NONE) {
-        return bench_box_ask(box, ring_length, BENCH_BOX_WORDS - 1);
+        return bench_box_ask(box, ring_length, BENCH_BOX_STORED);
+    }
+    if (wrong() == asked_name && question == NAME_LENGTH && bench_box_ask(box, ring_length, JOB) != BENCH_BOX_NONE) {
+        return box->words[NAME_LENGTH];
     }
     if (wrong() == asked_version && question == BENCH_BOX_VERSION) {
         return box->words[VERSION];

@@ -1,4 +1,4 @@
-//! A plain scanner box controller, written from the paper alone.
+//! A plain scanner box controller, written from the paper and its requests alone.
 //!
 //! It is a peer: the proved box is tested against it and timed against it. Nothing here is proved. The caller owns
 //! everything (the box record, the ring, the reply, the lines); the library keeps no state and allocates nothing.
@@ -6,12 +6,14 @@
 #![forbid(unsafe_code)]
 
 mod desk;
+mod name;
 mod record;
 mod rules;
 mod text;
 mod wire;
 
 pub use desk::{perform, serve, tick, Progress, NO_RECORD};
+pub use name::{Name, NAME_MOST};
 pub use record::{FailureCode, FeederState, Granted, Record, ScanState, NAMES, RING_MOST, VERSION, WORDS};
 pub use rules::Reason;
 pub use text::LINE_MOST;

@@ -1,10 +1,12 @@
 //! The box record and when it is sound.
 
+use crate::name::{Name, NAME_MOST};
+
 /// How many words a record is told in.
-pub const WORDS: usize = 19;
+pub const WORDS: usize = 23;
 
 /// What the first word is: words with another number there are no record.
-pub const VERSION: u64 = 1;
+pub const VERSION: u64 = 2;
 
 /// The fields by their places in the words.
 pub const NAMES: [&str; WORDS] = [
@@ -27,6 +29,10 @@ pub const NAMES: [&str; WORDS] = [
     "path",
     "start",
     "stored",
+    "last name, its first eight bytes",
+    "last name, the next eight",
+    "last name, the last two",
+    "last name, its length",
 ];
 
 /// "The ring has 1 to 65,536 bytes."
@@ -124,6 +130,8 @@ pub struct Record {
     pub start: u64,
     /// How many picture bytes wait in the ring.
     pub stored: u64,
+    /// The last name that any job held.
+    pub last_name: Name,
 }
 
 impl Record {
@@ -148,6 +156,7 @@ impl Record {
             path: 0,
             start: 0,
             stored: 0,
+            last_name: Name::EMPTY,
         }
     }
 
@@ -175,11 +184,13 @@ impl Record {
             path: words[16].try_into().ok()?,
             start: words[17],
             stored: words[18],
+            last_name: last_name(words[19..].try_into().ok()?)?,
         })
     }
 
     /// The record in words. SideCount is in two's complement of 32 bits.
     pub fn to_words(&self) -> [u64; WORDS] {
+        let [first, second, third, length] = name_words(&self.last_name);
         [
             VERSION,
             self.scan as u64,
@@ -200,10 +211,20 @@ impl Record {
             self.path.into(),
             self.start,
             self.stored,
+            first,
+            second,
+            third,
+            length,
         ]
     }
 
-    /// "A record is sound if": the paper's five points, the cheap ones that hold in every state first.
+    /// The present name.
+    #[inline]
+    pub fn name(&self) -> Name {
+        Name::new(self.job, self.append, self.side_number)
+    }
+
+    /// "A record is sound if": the paper's five points and the last name's, the cheap ones that hold in every state first.
     #[inline(always)]
     pub fn is_sound(&self, ring_length: usize) -> bool {
         if !self.marks_are_sound() || !self.ring_is_sound(ring_length) {
@@ -218,6 +239,7 @@ impl Record {
                 ScanState::Finishing => self.finishing_is_sound(),
                 _ => self.is_still(),
             }
+            && self.name_is_sound()
     }
 
     /// "Settings, marks and sensors are 0 or 1. Path sensor 1 means feeder Erred."
@@ -273,6 +295,12 @@ impl Record {
     fn finishing_is_sound(&self) -> bool {
         self.stored >= 1 && self.feeder != FeederState::Busy && (self.use_feeder == 1 || self.side_count == 0)
     }
+
+    /// "While a job is held, a sound record has that job's there."
+    #[inline]
+    fn name_is_sound(&self) -> bool {
+        self.last_name == self.name()
+    }
 }
 
 fn scan_state(word: u64) -> Option<ScanState> {
@@ -303,4 +331,20 @@ fn failure_code(word: u64) -> Option<FailureCode> {
         2 => FailureCode::Timeout,
         _ => return None,
     })
+}
+
+/// A name's eighteen bytes by eight, eight and two, the first byte highest, and its length.
+fn name_words(name: &Name) -> [u64; 4] {
+    let number = |bytes: &[u8]| bytes.iter().fold(0, |number, &byte| number << 8 | u64::from(byte));
+    [number(&name.bytes[..8]), number(&name.bytes[8..16]), number(&name.bytes[16..]), name.length.into()]
+}
+
+fn last_name(&[first, second, third, length]: &[u64; 4]) -> Option<Name> {
+    let third: u16 = third.try_into().ok()?;
+    let length = u8::try_from(length).ok().filter(|&length| usize::from(length) <= NAME_MOST)?;
+    let mut bytes = [0; NAME_MOST];
+    bytes[..8].copy_from_slice(&first.to_be_bytes());
+    bytes[8..16].copy_from_slice(&second.to_be_bytes());
+    bytes[16..].copy_from_slice(&third.to_be_bytes());
+    Some(Name { bytes, length })
 }

@@ -138,6 +138,7 @@ fn start_scan(record: &mut Record, use_feeder: u8, side_count: i16, append: u8, 
     record.granted = Granted::grant(time);
     record.job = after_job(record.last_job);
     record.last_job = record.job;
+    announce(record);
     go(record, use_feeder, side_count);
     Ok(Extra::Granted(record.granted))
 }
@@ -491,24 +492,38 @@ fn go(record: &mut Record, use_feeder: u8, side_count: i32) {
     }
 }
 
-/// "Otherwise the feeder becomes Busy. Then Scanning, and DestinationID rises by one, 4,294,967,295 going to 0."
+/// "Otherwise the feeder becomes Busy. Then Scanning." The name is the job's, so no side's beginning raises DestinationID.
 #[inline]
 fn begin_side(record: &mut Record) {
     if record.use_feeder == 1 {
         record.feeder = FeederState::Busy;
     }
     record.scan = ScanState::Scanning;
-    record.destination = record.destination.wrapping_add(1);
+}
+
+/// "It rises by one exactly when the name differs from the last name any job held", 4,294,967,295 going to 0. "The last name
+/// is remembered through Idle": the fresh one is no job's, so that "the first job's name counts as a change".
+#[inline]
+fn announce(record: &mut Record) {
+    let name = record.name();
+    if name != record.last_name {
+        record.last_name = name;
+        record.destination = record.destination.wrapping_add(1);
+    }
 }
 
 /// **Drain step**: "SideNumber plus 1. Stop asked: end of job. SideCount 0: Pending. Else a side begins, except: 713
-/// gives Pending, with SideCount 0 if it was −1 and kept otherwise; 711 gives Erred, Jammed."
+/// gives Pending, with SideCount 0 if it was −1 and kept otherwise; 711 gives Erred, Jammed." And of DestinationID and the
+/// last name: "A drain step that ends the job moves nothing."
 #[inline(never)]
 fn drain(record: &mut Record) {
     record.side_number = if record.side_number >= SIDE_NUMBER_MOST { 0 } else { record.side_number + 1 };
     if record.stop_asked == 1 {
         end_job(record);
-    } else if record.side_count == 0 {
+        return;
+    }
+    announce(record);
+    if record.side_count == 0 {
         record.scan = ScanState::Pending;
     } else {
         match side_can_begin(record, record.use_feeder) {

@@ -4,6 +4,7 @@
 //! bytes at a time and the fields after them cover what is too much. The extra is exact, so the bytes behind a line
 //! stay as they are.
 
+use crate::name::{three_digits, THREE};
 use crate::record::{FailureCode, Record};
 use crate::rules::{Answer, Extra, Lent};
 use crate::wire::HEAD;
@@ -35,17 +36,6 @@ static SHORT: [Short; 1001] = {
     table
 };
 
-/// The numbers 0 to 999 in three digits, with a space behind.
-static THREE: [[u8; 4]; 1000] = {
-    let mut table = [[b' '; 4]; 1000];
-    let mut number = 0;
-    while number < 1000 {
-        table[number as usize] = three_digits(number);
-        number += 1;
-    }
-    table
-};
-
 /// Two upper-case hex digits for each kind.
 static HEX: [[u8; 2]; 256] = {
     let mut table = [[0; 2]; 256];
@@ -72,10 +62,6 @@ static STATES: [[[u8; 4]; 4]; 5] = {
     }
     table
 };
-
-const fn three_digits(number: u32) -> [u8; 4] {
-    [b'0' + (number / 100) as u8, b'0' + (number / 10 % 10) as u8, b'0' + (number % 10) as u8, b' ']
-}
 
 /// Puts the line of an answered record and gives its length: "kind, number, scan state, feeder state, job, SideNumber,
 /// SideCount, extra". The bytes of a fetch stand in the reply.
@@ -219,18 +205,12 @@ impl Text<'_> {
         }
     }
 
-    /// "J, ten digits of job, three digits of SideNumber if Append is 1, then .jpg", and behind a colon DestinationID.
+    /// "name:DestinationID".
     #[inline]
     fn put_destination(&mut self, record: &Record) {
-        let job = record.job;
-        self.put([b'J', b'0' + (job / 1_000_000_000) as u8]);
-        self.put_front(THREE[(job / 1_000_000 % 1000) as usize], 3);
-        self.put_front(THREE[(job / 1000 % 1000) as usize], 3);
-        self.put_front(THREE[(job % 1000) as usize], 3);
-        if record.append == 1 {
-            self.put_front(THREE[usize::from(record.side_number)], 3);
-        }
-        self.put(*b".jpg:");
+        let name = record.name();
+        self.put_front(name.bytes, usize::from(name.length));
+        self.put([b':']);
         self.put_exact(record.destination);
     }
 

@@ -4,7 +4,7 @@
 mod common;
 
 use common::*;
-use peer::{kind, FeederState, Granted, Progress, Record, ScanState, LINE_MOST, NO_RECORD};
+use peer::{kind, FeederState, Granted, Name, Progress, Record, ScanState, LINE_MOST, NO_RECORD};
 
 const NAME: &str = "J0000000001001.jpg";
 
@@ -105,13 +105,21 @@ const NOTHING: Progress = Progress { read: 0, written: 0, ended: false };
 #[test]
 fn unsound_records_are_604_and_nothing_is_done() {
     let fresh = Record::fresh();
+    let last_name = kept(NAME);
+    let held = Record { scan: ScanState::Pending, job: 1, last_job: 1, last_name, ..fresh };
+    assert!(held.is_sound(4096));
     for record in [
         Record { job: 1, last_job: 1, ..fresh },
         Record { side_number: 2, ..fresh },
         Record { quiet: 1, ..fresh },
         Record { use_feeder: 200, ..fresh },
-        Record { scan: ScanState::Pending, job: 1, last_job: 1, granted: Granted(7000), ..fresh },
-        Record { scan: ScanState::Pending, job: 1, last_job: 1, side_count: 5000, ..fresh },
+        Record { granted: Granted(7000), ..held },
+        Record { side_count: 5000, ..held },
+        Record { last_name: Name::EMPTY, ..held },
+        Record { last_name: Name { length: 17, ..last_name }, ..held },
+        Record { append: 0, ..held },
+        Record { append: 0, last_name: Name { length: 15, ..last_name }, ..held },
+        Record { side_number: 2, ..held },
         Record { start: 4096, ..fresh },
         Record { stored: 1, ..fresh },
         Record { feeder: FeederState::Busy, ..fresh },
@@ -135,8 +143,54 @@ fn unsound_records_are_604_and_nothing_is_done() {
         assert_eq!(fresh.is_sound(length), sound);
         assert_eq!(peer::tick(&mut { fresh }, length), if sound { 0 } else { 604 });
     }
-    // Granted counts only while a job is held.
+    // Granted counts only while a job is held, and so does the last name.
     assert!(Record { granted: Granted(7000), last_job: 9, ..fresh }.is_sound(4096));
+    assert!(Record { last_name: Name { bytes: [0xFF; 18], length: 0 }, ..fresh }.is_sound(4096));
+}
+
+/// "It rises by one exactly when the name differs from the last name any job held": eighteen bytes and a length.
+#[test]
+fn a_last_name_of_other_hands() {
+    let after = |last_name, append| {
+        let mut bench = Bench { record: Record { last_name, destination: 7, ..Record::fresh() }, ..Bench::desk() };
+        bench.accept(&[start_scan(0, 0, append, 0)]);
+        assert_eq!(bench.record.last_name, kept(&bench.name()));
+        bench.record.destination
+    };
+    for (append, name) in [(1, NAME), (0, "J0000000001.jpg")] {
+        let same = kept(name);
+        assert_eq!(after(same, append), 7);
+        assert_eq!(after(same, 1 - append), 8);
+        for place in 0..18 {
+            let mut other = same;
+            other.bytes[place] ^= 1;
+            assert_eq!(after(other, append), 8, "byte {place}");
+        }
+        for length in (0..=18).filter(|&length| length != same.length) {
+            assert_eq!(after(Name { length, ..same }, append), 8, "length {length}");
+        }
+    }
+    // The wrap, and a number that stays at it.
+    for (last_name, right) in [(Name::EMPTY, 0), (kept(NAME), u32::MAX)] {
+        let record = Record { last_name, destination: u32::MAX, ..Record::fresh() };
+        let mut bench = Bench { record, ..Bench::desk() };
+        bench.accept(&[start_scan(0, 1, 1, 0)]);
+        assert_eq!(bench.record.destination, right);
+    }
+}
+
+#[test]
+fn a_drain_step_that_ends_the_job_moves_neither_number_nor_name() {
+    for (append, picture, ends) in [(1, &b""[..], side_ended()), (1, b"a", fetch(1, NAME)), (0, b"", side_ended())] {
+        let mut bench = Bench::desk();
+        bench.accept(&[start_scan(0, 1, append, 0), bytes(picture), with_job(kind::STOP, 1)]);
+        if !picture.is_empty() {
+            bench.accept(&[side_ended()]);
+        }
+        let name = bench.record.last_name;
+        bench.accept(&[ends]);
+        assert_eq!((bench.record.scan, bench.record.destination, bench.record.last_name), (ScanState::Idle, 1, name));
+    }
 }
 
 #[test]

@@ -1,4 +1,4 @@
-//! The box record in words, its soundness against a second telling of the five points, desk records written and read,
+//! The box record in words, its soundness against a second telling of its points, desk records written and read,
 //! and long walks.
 
 mod common;
@@ -11,8 +11,23 @@ use peer::{
 
 #[test]
 fn fresh_in_words() {
-    assert_eq!(Record::fresh().to_words(), [1, 0, 0, 0, 0, 60, 0, 0, 1, 0, 0, 1, 1, 0, 0, 0, 0, 0, 0]);
+    let right = [2, 0, 0, 0, 0, 60, 0, 0, 1, 0, 0, 1, 1, 0, 0, 0, 0, 0, 0, 0, 0, 0, 0];
+    assert_eq!(Record::fresh().to_words(), right);
     assert!(Record::fresh().is_sound(1));
+}
+
+/// The last name's words: eight bytes, eight and two, the first byte highest, and the length.
+#[test]
+fn a_last_name_in_words() {
+    for (name, right) in [
+        ("J0123456789987.jpg", [0x4A30_3132_3334_3536, 0x3738_3939_3837_2E6A, 0x7067, 18]),
+        ("J0123456789.jpg", [0x4A30_3132_3334_3536, 0x3738_392E_6A70_6700, 0, 15]),
+        ("", [0; 4]),
+    ] {
+        let record = Record { last_name: kept(name), ..Record::fresh() };
+        assert_eq!(record.to_words()[19..], right);
+        assert_eq!(Record::from_words(&record.to_words()), Some(record));
+    }
 }
 
 #[test]
@@ -37,6 +52,10 @@ fn words_round_trip_and_fit() {
         255,
         u64::MAX,
         u64::MAX,
+        u64::MAX,
+        u64::MAX,
+        65_535,
+        18,
     ];
     let mut dice = Dice::new(1);
     for _ in 0..20_000 {
@@ -53,8 +72,8 @@ fn words_round_trip_and_fit() {
         for too_much in [MOST[at].wrapping_add(1), MOST[at] | 1 << 63, MOST[at] | 1 << 32] {
             let mut words = MOST;
             words[at] = too_much;
-            // The last two words are any number.
-            assert_eq!(Record::from_words(&words).is_some(), at >= 17);
+            // Start, stored and a name's first sixteen bytes are any number.
+            assert_eq!(Record::from_words(&words).is_some(), (17..=20).contains(&at));
         }
     }
 }
@@ -63,13 +82,13 @@ fn words_round_trip_and_fit() {
 fn one_version() {
     let mut dice = Dice::new(3);
     let mut words = Record::fresh().to_words();
-    for version in [0, 2, 3, 1 << 8, 1 << 32, u64::MAX].into_iter().chain((0..1000).map(|_| dice.next())) {
+    for version in [0, 1, 2, 3, 1 << 8, 1 << 32, u64::MAX].into_iter().chain((0..1000).map(|_| dice.next())) {
         words[0] = version;
         assert_eq!(Record::from_words(&words).is_some(), version == VERSION, "{version}");
     }
 }
 
-/// The five points, one after the other as the paper tells them.
+/// The five points, one after the other as the paper tells them, and the last name's.
 fn told_sound(record: &Record, ring_length: usize) -> bool {
     let ring = ring_length as u64;
     let idle = record.scan == ScanState::Idle;
@@ -102,7 +121,7 @@ fn told_sound(record: &Record, ring_length: usize) -> bool {
         [record.use_feeder, record.append, record.stop_asked, record.tray, record.path].into_iter().all(zero_or_one)
             && (record.path == 0 || record.feeder == FeederState::Erred)
             && (record.stop_asked == 0 || scanning || finishing);
-    first && second && third && fourth && fifth
+    first && second && third && fourth && fifth && (idle || record.last_name == kept(&name_of(record)))
 }
 
 #[test]
@@ -132,6 +151,10 @@ fn soundness_as_told() {
             dice.below(2),
             dice.one_of(&[0, 0, 7]),
             dice.one_of(&[0, 0, 1, 8]),
+            0,
+            0,
+            0,
+            0,
         ];
         // Now and then a value on the other side of a line.
         match dice.below(24) {
@@ -145,7 +168,19 @@ fn soundness_as_told() {
             _ => {}
         }
         let ring_length = dice.one_of(&[8, 8, 8, 8, 0, 1, 65_536, 65_537]);
-        let record = Record::from_words(&words).unwrap();
+        let mut record = Record::from_words(&words).unwrap();
+        if record.side_number <= 999 && dice.below(8) != 0 {
+            record.last_name = kept(&name_of(&record));
+        }
+        match dice.below(24) {
+            0 => record.last_name.bytes[dice.below(18) as usize] ^= 1 << dice.below(8),
+            1 => record.last_name.length = dice.below(19) as u8,
+            2 => {
+                record.last_name =
+                    kept(&name_of(&Record { append: 1 - record.append.min(1), side_number: 1, ..record }))
+            }
+            _ => {}
+        }
         assert_eq!(record.is_sound(ring_length), told_sound(&record, ring_length), "{record:?} {ring_length}");
         sound += usize::from(record.is_sound(ring_length));
     }
@@ -227,7 +262,8 @@ fn likely(dice: &mut Dice, bench: &Bench) -> Vec<u8> {
 }
 
 /// Long walks over small rings: the record stays sound, refusals leave all as it was, the bytes that come out of a job
-/// are those that went in, and a window's text is that of its records one by one.
+/// are those that went in, DestinationID counts the changes of the name that is seen while a job is held, and a window's
+/// text is that of its records one by one.
 #[test]
 fn long_walks() {
     for walk in 0..60 {
@@ -236,6 +272,7 @@ fn long_walks() {
         let mut bench = Bench::new(ring_length, DESK_REPLY);
         let (mut input, mut text) = (Vec::new(), Vec::new());
         let mut waiting: Vec<u8> = Vec::new();
+        let (mut seen, mut changes) = (String::new(), 0);
         for _ in 0..4000 {
             let record = likely(&mut dice, &bench);
             let job = bench.record.job;
@@ -254,6 +291,10 @@ fn long_walks() {
                 waiting.clear();
             }
             assert_eq!(waiting.len() as u64, bench.record.stored);
+            if bench.record.job != 0 && bench.name() != seen {
+                (seen, changes) = (bench.name(), changes + 1);
+            }
+            assert_eq!((bench.record.destination, bench.record.last_name), (changes, kept(&seen)), "{line}");
             input.extend(&record);
             text.extend(line.bytes().chain([b'\n']));
         }

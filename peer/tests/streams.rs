@@ -6,7 +6,7 @@ use std::fs;
 use std::io::Write;
 use std::process::{Command, Stdio};
 
-use common::{text_by_records, text_in_windows, Bench};
+use common::{kept, text_by_records, text_in_windows, Bench};
 use peer::{read, Progress, Reading, Record, ScanState, DESK_REPLY, DESK_RING, LINE_MOST};
 
 /// The example's records, and its lines.
@@ -135,7 +135,11 @@ fn start_record(word: &str) -> Record {
     match word {
         "fresh" => fresh,
         "unsound" => Record { side_number: 2, ..fresh },
-        "side_998" => Record { scan: ScanState::Pending, job: 1, last_job: 1, side_number: 998, ..fresh },
+        "side_998" => {
+            let last_name = kept("J0000000001998.jpg");
+            Record { scan: ScanState::Pending, job: 1, last_job: 1, side_number: 998, last_name, ..fresh }
+        }
+        "named" => Record { last_name: kept("J0000000001001.jpg"), ..fresh },
         number => {
             let last = number.parse().expect("a number");
             Record { last_job: last, destination: last, ..fresh }

@@ -272,7 +272,8 @@ impl Pair {
         match kind {
             Kind::Ask => {
                 let sound = record.is_some_and(|record| record.is_sound(ring.len()));
-                let right = |question: &u64| *words.get(*question as usize).filter(|_| sound).unwrap_or(&NONE);
+                let asked = &words[..QUESTIONS];
+                let right = |question: &u64| *asked.get(*question as usize).filter(|_| sound).unwrap_or(&NONE);
                 let questions = questions();
                 self.questions += questions.len() as u64;
                 (

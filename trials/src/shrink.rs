@@ -2,6 +2,7 @@
 
 use crate::case::{pieces, whole, Call, Case, Model, Start};
 use crate::pair::Pair;
+use crate::start::named;
 use crate::wire::{show_text, words_text, Difference, Memory, Words};
 use peer::{Record, DESK_REPLY, LINE_MOST, NAMES, WORDS};
 use std::time::{Duration, Instant};
@@ -166,16 +167,19 @@ impl Shrinker<'_> {
         }
     }
 
-    /// A record that is nearer to a fresh one, a shorter ring. Words that are equal may have to stay so.
+    /// A record that is nearer to a fresh one, a shorter ring. Words that are equal may have to stay so, and the last name
+    /// the job's.
     fn plainer_start(&mut self) {
         for place in 0..WORDS {
             let words = self.best.start.words;
             let plain = [fresh()[place], 0, 1, 2, 5, 999, u32::MAX.into()];
             for value in plainer(words[place], &plain) {
+                let mut one = words;
+                one[place] = value;
                 let equal = words.map(|word| if word == words[place] { value } else { word });
-                if self.offer_with(|case| case.start.words[place] = value)
-                    || (!plain.contains(&words[place]) && self.offer_with(|case| case.start.words = equal))
-                {
+                // Equal words only go down, so that this comes to an end.
+                let together = value < words[place] && !plain.contains(&words[place]);
+                if self.offer_words(one) || (together && self.offer_words(equal)) {
                     break;
                 }
             }
@@ -185,6 +189,13 @@ impl Shrinker<'_> {
                 break;
             }
         }
+    }
+
+    /// These words, or else with the last name that they ask for.
+    fn offer_words(&mut self, words: Words) -> bool {
+        let named = Record::from_words(&words).map_or(words, |record| named(record).to_words());
+        self.offer_with(|case| case.start.words = words)
+            || (named != words && named != self.best.start.words && self.offer_with(|case| case.start.words = named))
     }
 }
 

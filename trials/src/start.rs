@@ -3,7 +3,7 @@
 use crate::case::Start;
 use crate::rng::Rng;
 use crate::wire::Words;
-use peer::{FailureCode, FeederState, Granted, Record, ScanState};
+use peer::{FailureCode, FeederState, Granted, Name, Record, ScanState, NAME_MOST};
 
 /// The name of a job's side: with three digits of SideNumber, or without.
 pub fn name_of(job: u32, side: Option<u16>) -> Vec<u8> {
@@ -14,6 +14,20 @@ pub fn name_of(job: u32, side: Option<u16>) -> Vec<u8> {
 /// The present name.
 pub fn present_name(record: &Record) -> Vec<u8> {
     name_of(record.job, (record.append == 1).then_some(record.side_number))
+}
+
+/// A name as a record keeps it: unused bytes are 0.
+pub fn kept(name: &[u8]) -> Name {
+    let mut bytes = [0; NAME_MOST];
+    bytes[..name.len()].copy_from_slice(name);
+    Name { bytes, length: name.len() as u8 }
+}
+
+/// The record with the last name that it has where all else is sound: the job's while one is held, in Idle what it is.
+pub fn named(record: Record) -> Record {
+    let held = record.scan != ScanState::Idle;
+    let last_name = if held && record.side_number < 1000 { kept(&present_name(&record)) } else { record.last_name };
+    Record { last_name, ..record }
 }
 
 /// The quiet seconds at which a held job ends.
@@ -71,6 +85,8 @@ pub fn sound_words(rng: &mut Rng, ring_length: usize, near_wrap: bool) -> Words 
         if wraps & 4 != 0 {
             record.destination = u32::MAX - near as u32;
         }
+        record.last_name = some_last_name(rng, &record);
+        record = named(record);
         if record.is_sound(ring_length) {
             return record.to_words();
         }
@@ -122,6 +138,23 @@ fn draft(rng: &mut Rng, ring_length: usize) -> Record {
         _ => {}
     }
     record
+}
+
+/// A last name of Idle: the one that StartScan gives, with side numbers or without; one beside it; none; any bytes.
+fn some_last_name(rng: &mut Rng, idle: &Record) -> Name {
+    let job = idle.last_job.checked_add(1).unwrap_or(1);
+    let side = rng.pick(&[None, Some(1), Some(1)]);
+    let mut name = kept(&name_of(job, side));
+    let (place, length) = (rng.below(NAME_MOST), rng.below(NAME_MOST + 1) as u8);
+    match rng.below(8) {
+        0 => name.bytes[place] ^= 1 << rng.below(8),
+        1 => name.length = length,
+        2 => name = Name::EMPTY,
+        3 => name = kept(&name_of(idle.last_job, side)),
+        4 => name = Name { bytes: std::array::from_fn(|_| rng.byte()), length },
+        _ => {}
+    }
+    name
 }
 
 /// A number of 32 bits: at an edge, where its digits become more, or any.

@@ -1,8 +1,9 @@
 //! What the trials reach: how often each kind got each number, and what the streams pass.
 
-use crate::case::Call;
-use crate::wire::{Came, Kind};
-use peer::{kind, FeederState, Listed, Reading, Record, ScanState, KINDS, LISTED, NO_RECORD};
+use crate::case::{Call, Start};
+use crate::start::{kept, named, present_name};
+use crate::wire::{Came, Kind, QUESTIONS};
+use peer::{kind, FeederState, Listed, Name, Reading, Record, ScanState, KINDS, LISTED, NAME_MOST, NO_RECORD};
 use std::collections::BTreeMap;
 
 /// The paper's numbers, 0 for acceptance first.
@@ -16,9 +17,13 @@ pub struct Tally {
     pub bad: u64,
     /// Records that are sound but for their version, by it.
     versions: [u64; VERSIONS.len()],
+    /// Records that are sound but for their last name: wrong in one byte, by its place, and otherwise.
+    name_bytes: [u64; NAME_MOST],
+    names: [u64; LAST_NAMES.len()],
     /// Calls that answer no record, by what they find.
     unanswered: [u64; UNANSWERED.len()],
-    marks: [u64; MARKS.len()],
+    /// Records of streams that pass a mark, by its name.
+    marks: BTreeMap<&'static str, u64>,
 }
 
 impl Tally {
@@ -49,6 +54,27 @@ impl Tally {
         self.versions[version.min(3) as usize + wide] += 1;
     }
 
+    /// Notes the last name of a record that is else sound.
+    pub fn note_last_name(&mut self, start: &Start) {
+        let (mut words, given) = (start.words, &start.words[QUESTIONS..]);
+        words[QUESTIONS..].fill(0);
+        let Some(record) = Record::from_words(&words).map(named).filter(|record| record.is_sound(start.ring_length))
+        else {
+            return;
+        };
+        for (count, (_, is_so)) in self.names.iter_mut().zip(LAST_NAMES) {
+            *count += is_so(&record, given) as u64;
+        }
+        let told = Record::from_words(&start.words).filter(|told| told.last_name.length == record.last_name.length);
+        if let (Some(told), true) = (told, record.scan != ScanState::Idle) {
+            let differs = |place: &usize| told.last_name.bytes[*place] != record.last_name.bytes[*place];
+            let wrong: Vec<usize> = (0..NAME_MOST).filter(differs).collect();
+            if let [place] = wrong[..] {
+                self.name_bytes[place] += 1;
+            }
+        }
+    }
+
     /// Notes a call, and what it came to, where it answers no record.
     pub fn note_call(&mut self, call: &Call, came: &Came) {
         if !call.puts_lines() || came.read > 0 || came.number == 604 {
@@ -61,9 +87,13 @@ impl Tally {
 
     /// Notes a record of a stream that is accepted.
     pub fn note_passed(&mut self, passed: &Passed) {
-        for (count, (_, passes)) in self.marks.iter_mut().zip(MARKS) {
-            *count += passes(passed) as u64;
+        for (name, _) in MARKS.iter().filter(|(_, passes)| passes(passed)) {
+            *self.marks.entry(name).or_default() += 1;
         }
+    }
+
+    fn passed(&self, mark: &str) -> u64 {
+        self.marks.get(mark).copied().unwrap_or(0)
     }
 
     pub fn print(&self, marks: bool) {
@@ -79,11 +109,15 @@ impl Tally {
         for (count, name) in self.versions.iter().zip(VERSIONS) {
             println!("  {name}: {count}");
         }
+        for (count, (name, _)) in self.names.iter().zip(LAST_NAMES) {
+            println!("  {name}: {count}");
+        }
+        println!("  held, last name wrong in one byte, by its place: {:?}", self.name_bytes);
         for (count, (name, _)) in self.unanswered.iter().zip(UNANSWERED) {
             println!("  {name}: {count}");
         }
-        for (count, (name, _)) in self.marks.iter().zip(MARKS).filter(|_| marks) {
-            println!("  {name}: {count}");
+        for (name, _) in MARKS.iter().filter(|_| marks) {
+            println!("  {name}: {}", self.passed(name));
         }
     }
 
@@ -103,9 +137,12 @@ impl Tally {
         if self.bad == 0 {
             faults.push("never reached: bad".to_string());
         }
-        let marks = self.marks.iter().zip(MARKS.map(|(name, _)| name)).filter(|_| marks);
+        let marks = MARKS.iter().filter(|(name, _)| marks && self.passed(name) == 0).map(|&(name, _)| (&0, name));
         let unanswered = self.unanswered.iter().zip(UNANSWERED.map(|(name, _)| name));
-        let missed = self.versions.iter().zip(VERSIONS).chain(unanswered).chain(marks).filter(|(&count, _)| count == 0);
+        let names = self.names.iter().zip(LAST_NAMES.map(|(name, _)| name));
+        let bytes = self.name_bytes.iter().map(|count| (count, "held, last name wrong in each byte alone"));
+        let records = self.versions.iter().zip(VERSIONS).chain(names).chain(bytes);
+        let missed = records.chain(unanswered).chain(marks).filter(|(&count, _)| count == 0);
         faults.extend(missed.map(|(_, name)| format!("never reached: {name}")));
         faults
     }
@@ -120,6 +157,43 @@ fn misses<K: Ord>(reached: &BTreeMap<K, u64>, possible: &[K], tell: impl Fn(&K) 
 
 /// The right version, those beside it, and others.
 const VERSIONS: [&str; 5] = ["version 0", "version 1", "version 2", "another version", "a version beyond 32 bits"];
+
+type LastName = (&'static str, fn(&Record, &[u64]) -> bool);
+
+/// The last names of records of other hands: the record with the right one, and the four words that are given.
+const LAST_NAMES: [LastName; 8] = [
+    ("held, the last name right", |record, given| held(record) && given == own(record)),
+    ("held, last name wrong in its length alone", |record, given| {
+        held(record) && given[3] <= NAME_MOST as u64 && given[3] != own(record)[3] && given[..3] == own(record)[..3]
+    }),
+    ("held, last name empty", |record, given| held(record) && given == [0; 4]),
+    ("Idle, last name empty", |record, given| !held(record) && given == [0; 4]),
+    ("Idle, the last name one that StartScan gives", |record, given| {
+        let given_next = |append| is_next(record, append, given);
+        !held(record) && (given_next(0) || given_next(1))
+    }),
+    ("Idle, any last name that fits", |record, given| {
+        !held(record) && given[2] < 65_536 && (1..=18).contains(&given[3])
+    }),
+    ("a last name's length of 19 or more", |_, given| given[2] < 65_536 && given[3] >= 19),
+    ("a last name's third word of 65,536 or more", |_, given| given[2] >= 65_536 && given[3] <= 18),
+];
+
+fn held(record: &Record) -> bool {
+    record.scan != ScanState::Idle
+}
+
+/// The words of a record's last name.
+fn own(record: &Record) -> Vec<u64> {
+    record.to_words()[QUESTIONS..].to_vec()
+}
+
+/// Whether these are the words of the name that StartScan gives with this Append.
+fn is_next(idle: &Record, append: u8, words: &[u64]) -> bool {
+    let job = idle.last_job.checked_add(1).unwrap_or(1);
+    let name = present_name(&Record { job, append, ..*idle });
+    own(&Record { last_name: kept(&name), ..*idle }) == words
+}
 
 type Finds = (&'static str, fn(&Call, &Came) -> bool);
 
@@ -207,6 +281,32 @@ impl Passed<'_> {
         (self.kind == by && (by_fetch || by_end)).then_some(self.after.scan)
     }
 
+    /// DestinationID rises by one, and the last name is another.
+    fn rises(&self) -> bool {
+        self.after.destination == self.before.destination.wrapping_add(1)
+            && self.after.last_name != self.before.last_name
+    }
+
+    /// DestinationID and the last name stay.
+    fn stays(&self) -> bool {
+        self.after.destination == self.before.destination && self.after.last_name == self.before.last_name
+    }
+
+    /// A drain step by any kind leads here, with this Append.
+    fn drains_to(&self, append: u8, scan: ScanState) -> bool {
+        self.before.append == append && [kind::FETCH, kind::SIDE_ENDED].iter().any(|&by| self.drained(by) == Some(scan))
+    }
+
+    /// Start begins a side from this state.
+    fn starts_from(&self, scan: ScanState) -> bool {
+        self.kind == kind::START && self.before.scan == scan && self.after.scan == ScanState::Scanning
+    }
+
+    /// StartScan is accepted. What it finds as the last name, and what it leaves.
+    fn renames(&self) -> Option<(Name, Name)> {
+        (self.kind == kind::START_SCAN).then_some((self.before.last_name, self.after.last_name))
+    }
+
     /// The SideCount that a drain step finds, where it finds no sheet.
     fn no_sheet(&self, by: u8) -> Option<i32> {
         let last = (by == kind::SIDE_ENDED) as i32;
@@ -217,7 +317,7 @@ impl Passed<'_> {
 
 type Mark = (&'static str, fn(&Passed) -> bool);
 
-const MARKS: [Mark; 31] = [
+const MARKS: [Mark; 52] = [
     ("ring exactly full", |p| p.kind == kind::BYTES && !p.payload.is_empty() && p.after.stored == p.ring_length),
     ("bytes put round the ring's end", |p| p.puts_round()),
     ("bytes fetched round the ring's end", |p| p.moved().is_some_and(|moved| p.before.start + moved > p.ring_length)),
@@ -254,5 +354,50 @@ const MARKS: [Mark; 31] = [
     ("drain by Side ended: no sheet, SideCount -1 to 0", |p| p.no_sheet(kind::SIDE_ENDED) == Some(-1)),
     ("drain by Side ended: no sheet, SideCount kept", |p| {
         p.no_sheet(kind::SIDE_ENDED).is_some_and(|count| count != -1)
+    }),
+    ("DestinationID rises in StartScan, a side begins", |p| {
+        p.renames().is_some() && p.rises() && p.after.scan == ScanState::Scanning
+    }),
+    ("DestinationID rises in StartScan of no side", |p| {
+        p.renames().is_some() && p.rises() && p.after.scan == ScanState::Pending
+    }),
+    ("DestinationID rises in StartScan, the last name as long", |p| {
+        p.rises() && p.renames().is_some_and(|(was, is)| was.length == is.length)
+    }),
+    ("DestinationID rises in StartScan, the last name other in its length alone", |p| {
+        p.rises() && p.renames().is_some_and(|(was, is)| was.bytes == is.bytes)
+    }),
+    ("DestinationID rises in StartScan, the last name other in its last two bytes alone", |p| {
+        p.rises() && p.renames().is_some_and(|(was, is)| was.length == is.length && was.bytes[..16] == is.bytes[..16])
+    }),
+    ("DestinationID stays in StartScan, Idle has the very name", |p| {
+        p.stays() && p.renames().is_some() && p.after.append == 1
+    }),
+    ("DestinationID stays in StartScan, Idle has the very name, without side numbers", |p| {
+        p.stays() && p.renames().is_some() && p.after.append == 0
+    }),
+    ("DestinationID stays at a side's beginning by Start", |p| p.stays() && p.starts_from(ScanState::Pending)),
+    ("DestinationID stays at a side's beginning by Start after a jam", |p| {
+        p.stays() && p.starts_from(ScanState::Erred) && p.after.use_feeder == 1
+    }),
+    ("DestinationID stays at a side's beginning in a drain step, Append 0", |p| {
+        p.stays() && p.drains_to(0, ScanState::Scanning)
+    }),
+    ("DestinationID stays in a drain step to Pending, Append 0", |p| p.stays() && p.drains_to(0, ScanState::Pending)),
+    ("DestinationID stays in a drain step to Erred, Append 0", |p| p.stays() && p.drains_to(0, ScanState::Erred)),
+    ("DestinationID rises in a drain step to the next side", |p| p.rises() && p.drains_to(1, ScanState::Scanning)),
+    ("DestinationID rises in a drain step to Pending", |p| p.rises() && p.drains_to(1, ScanState::Pending)),
+    ("DestinationID rises in a drain step to Erred", |p| p.rises() && p.drains_to(1, ScanState::Erred)),
+    ("DestinationID 4,294,967,295 to 0 in a drain step", |p| {
+        p.renames().is_none() && (p.before.destination, p.after.destination) == (u32::MAX, 0)
+    }),
+    ("last name kept in an ending drain step", |p| p.stays() && p.drains_to(1, ScanState::Idle)),
+    ("last name kept in an ending drain step, Append 0", |p| p.stays() && p.drains_to(0, ScanState::Idle)),
+    ("last name kept in Stop, Abort and the end by time", |p| {
+        p.stays() && (p.ends(kind::STOP) || p.ends(kind::ABORT) || p.ends(kind::TICK))
+    }),
+    ("last name of 999 to 000", |p| p.rises() && p.wraps_side()),
+    ("last name of a job that had another number of bytes", |p| {
+        p.rises() && p.renames().is_some_and(|(was, is)| was.length != is.length && was.length >= 15)
     }),
 ];

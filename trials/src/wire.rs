@@ -212,6 +212,9 @@ impl Display for Difference {
     }
 }
 
+/// So many words have a question. The last name's, behind them, have none.
+pub const QUESTIONS: usize = WORDS - 4;
+
 /// Every question, and some that are none.
 pub fn questions() -> Vec<u64> {
     let beyond = WORDS as u64 + 3;
@@ -247,7 +250,7 @@ pub fn header() -> Vec<(String, u64)> {
     let mut header: Vec<(String, u64)> = first.map(|(name, value)| (name.to_string(), value)).to_vec();
     header.extend(NUMBERS.map(|number| (format!("the number {number}"), number.into())));
     header.extend(KINDS.map(|(kind, ..)| (format!("the kind {kind:02X}"), kind.into())));
-    header.extend((0..WORDS).map(|place| (format!("the question about {}", NAMES[place]), place as u64)));
+    header.extend((0..QUESTIONS).map(|place| (format!("the question about {}", NAMES[place]), place as u64)));
     for (name, count) in [("scan state", 5), ("feeder state", 4), ("FailureCode", 3)] {
         header.extend((0..count).map(|value| (format!("the {name} {value}"), value)));
     }

@@ -5,7 +5,8 @@ use lib.ListN.{take, drop}
 use Rattle.rules.specs.declared.Record.{Record}
 use Rattle.rules.specs.Calls.{Reason, n604, n601, n712, n404, n501, n711, n713, n603, numberOf, State, Values, nothing, time, destination, picture, state}
 use Rattle.rules.specs.Calls.{sides, feeding, mode, stored, Outcome}
-use Rattle.rules.specs.Moves.{headed, name}
+use Rattle.rules.specs.Name.{name}
+use Rattle.rules.specs.Moves.{headed}
 use Rattle.answers.specs.declared.Why.{Why}
 use Rattle.answers.specs.declared.Why.the-variants.{Unsound, Unlisted, OtherJob, OtherName, WrongState, FeederErred, NoSheet, NoRoom}
 use Rattle.answers.specs.declared.Answer.{Answer}

@@ -3,7 +3,7 @@ use Prim.Native.Nat.{ℕ}
 use mathlib.Core.Bool.{Bool, cond}
 use mathlib.Core.List.{List, [], _∷_}
 use lib.Dec.{ltb}
-use Rattle.stored.specs.Stored.{wordCount, numberAt, kept, recorded, isBox}
+use Rattle.stored.specs.Stored.{namesAt, numberAt, kept, recorded, isBox}
 use Rattle.desk_stream.specs.Boxed.{Came, unsoundNumber}
 use Rattle.host_tick.specs.Second.{secondOf}
 
@@ -14,12 +14,12 @@ tickNumber ws n = cond (isBox ws n) (secondOf (recorded ws) n .number) unsoundNu
 unfoldable pub tickWords : List ℕ → ℕ → List ℕ
 tickWords ws n = cond (isBox ws n) (kept (secondOf (recorded ws) n .state .box)) ws
 
--- ---- what the box is doing: the number asked for, or none where nothing is told
+-- ---- what the box is doing: the number asked for, or none where nothing is told; the last name is not asked for
 abbrev pub noAnswer : ℕ
 noAnswer = 18446744073709551615
 
 unfoldable pub answerTo : List ℕ → ℕ → ℕ → ℕ
-answerTo ws n question = cond (isBox ws n) (cond (ltb question wordCount) (numberAt ws question) noAnswer) noAnswer
+answerTo ws n question = cond (isBox ws n) (cond (ltb question namesAt) (numberAt ws question) noAnswer) noAnswer
 
 -- ---- what a record or a window of them leaves to the host
 pub record Left : Type 0 where

@@ -57,7 +57,7 @@ pub extern "C" fn bench_box_ask(words: &[u64; WORDS], length: usize, question: u
     ensures { λ n. ⌜ n ≡ answerTo (now (words .entry)) length question ⌝ }
 {
     if stored::is_box(words, length) {
-        if question < WORDS {
+        if question < stored::ASKED {
             return words[question];
         }
     }

@@ -13,12 +13,11 @@ use Rattle.rules.specs.Record.{negatives, on}
 use Rattle.rules.specs.Calls.{StartScan, Start, Stop, Abort, GetDestination, Fetch, GetState, GetSideInformation, Load, Eject, Reset}
 use Rattle.rules.specs.Calls.{SetFeederMode, GetFeederState, GetFeederMode, Bytes, SideEnded, Tray, Path, Tick, Call, scan, feeder, report}
 use Rattle.rules.specs.Calls.{State, Outcome, Values, nothing, time, destination, picture, state, sides, feeding, mode, stored, lent}
-use Rattle.rules.specs.Moves.{digits, name}
+use Rattle.rules.specs.Name.{digits, nameOf, name, nameRoom}
 use Rattle.rules.specs.Machine.{scanEffect, feederEffect, reportEffect, effect, step}
 use Rattle.rules.proofs.Choice.{choice}
 use Rattle.rules.proofs.Answers.{by-step}
 use Rattle.rules.proofs.RingLaws.{length-queue}
-use Rattle.name.specs.Spelled.{nameRoom}
 use Rattle.desk_text.specs.Digits.{decimal, mostDigits, hexByte}
 use Rattle.desk_text.proofs.Putting.{length-digits, length-hexes}
 use Rattle.desk_line.specs.Room.{countRoom, failureRoom, pictureBytes, extraRoom}
@@ -84,7 +83,7 @@ length-ten zero n = refl
 length-ten (suc k) n = ap suc (length-ten k n)
 
 pub length-name : (r : Record) → length (name r) ≤ nameRoom
-unfolding name
+unfolding nameOf
 length-name r =
     let side : length (cond (on (r .settings .append)) (digits 3 (r .side .number)) []) ≤ 3 =
     choice (λ (l : List ℕ). length l ≤ 3) (on (r .settings .append)) (λ _. omega (arith, length-ten 3 (r .side .number))) (λ _. omega arith) in

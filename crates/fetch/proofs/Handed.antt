@@ -1,7 +1,7 @@
 -- What a fetch hands over: how many bytes, the reply, and the record that is left.
 use Prim.Native.Nat.{ℕ, _+_, _-_, _≤_, min}
-use mathlib.Core.Path.{_≡_, sym, ap, _∙_}
-use mathlib.Core.Bool.{Bool, true, false, cond, _&&_}
+use mathlib.Core.Path.{_≡_, refl, sym, ap, _∙_}
+use mathlib.Core.Bool.{Bool, true, false, cond, _&&_, false≢true}
 use mathlib.Core.List.{List, [], _∷_, _++_, append-nil}
 use native.Mathlib.Omega.{arith}
 use borrow.Author.Tests.{lt-ltb, le-leb}
@@ -9,9 +9,10 @@ use borrow.Rule.Slice.PartMut.{putMid}
 use lib.Dec.{eqb, ltb}
 use lib.ListN.{length, set, take, drop, length-set, length-drop}
 use lib.Seq.{take-all, drop-length, drop-drop, take-at}
+use Rattle.rules.specs.declared.Scan.{Scan}
 use Rattle.rules.specs.declared.Record.{Record}
 use Rattle.rules.specs.declared.Ring.{Ring}
-use Rattle.rules.specs.Record.{finishing, sound}
+use Rattle.rules.specs.Record.{idle, finishing, sound}
 use Rattle.rules.specs.Ring.{wrap, queue}
 use Rattle.rules.specs.Moves.{withRing, heard, drained, headed, least, moved, last, fetched}
 use Rattle.rules.specs.Calls.{scan, Fetch}
@@ -117,3 +118,10 @@ module _ (r : Record) (n most room want k : ℕ) (so : sound r n ≡ true) (w : 
   least-there =
       let fit = to-sound r n so .common .ring in
       rw (lt-ltb (r .ring .start) n (fit .start), le-leb (r .ring .stored) n (fit .stored), le-leb k (r .ring .stored) (omega (arith, least-goes)))
+
+pub drains-held : (s : Scan) → finishing s ≡ true → idle s ≡ false
+drains-held Scan.Idle e = absurd (false≢true e)
+drains-held Scan.Pending e = refl
+drains-held Scan.Scanning e = refl
+drains-held Scan.Finishing e = refl
+drains-held Scan.Erred e = refl

@@ -10,10 +10,12 @@ ghost use Prim.Native.Nat.{_-_, _<_, _≤_, min};
 ghost use lib.Dec.{eqb};
 ghost use lib.ListN.{length};
 ghost use Rattle.rules.specs.Record.{idle, finishing, sound};
-ghost use Rattle.rules.specs.Moves.{name, least};
+ghost use Rattle.rules.specs.Name.{name, same};
+ghost use Rattle.rules.specs.Moves.{least};
 ghost use Rattle.rules.specs.Calls.{scan, Fetch};
-ghost use Rattle.rules.specs.Machine.{same, step};
+ghost use Rattle.rules.specs.Machine.{step};
 ghost use Rattle.ring.specs.Lent.{has, goesOut};
+ghost use Rattle.moves.specs.Holds.{isNamed};
 ghost use Rattle.answers.specs.Told.{stateOf, gave};
 ghost use Rattle.fetch.specs.Reply.{replyWith, noted};
 
@@ -59,10 +61,10 @@ fn is_last(left: Ring, r: Record) -> bool
     f & (left.stored == 0)
 }
 
-// Start moves on by k; the drain step follows the last byte.
+// Start moves on by k; the drain step follows the last byte, of a record whose last name is its own.
 fn note(r: Record, len: usize, k: usize) -> After
     requires { ⌜ k < 256 ⌝ }
-    ensures { λ a. ⌜ (has (r .ring) len k ≡ true → a ≡ noted k len r) ⌝ }
+    ensures { λ a. ⌜ (has (r .ring) len k ≡ true → (finishing (r .scanner .state) ≡ true → isNamed r ≡ true) → a ≡ noted k len r) ⌝ }
 {
     let was = r.ring;
     let left = ring::leave(was, len, k);

@@ -2,14 +2,17 @@
 use rules::Failure;
 use rules::Feeder;
 use rules::Input;
+use rules::Names;
 use rules::Record;
 use rules::Ring;
 use rules::Scan;
 use rules::Scanner;
 use rules::Side;
 ghost use mathlib.Core.Path.{_≡_};
+ghost use mathlib.Core.Bool.{true};
 ghost use Rattle.rules.specs.Moves.{withFeeder, withRing, standing, quietAt, stopAt, emptied, fedBy, heard, begun, announced, released, ended, timedOut};
-ghost use Rattle.rules.specs.Moves.{faulted, waited, numbered, drainedOn, drained};
+ghost use Rattle.rules.specs.Moves.{risen, announcedBy, faulted, waited, numbered, drainedOn, drained};
+ghost use Rattle.moves.specs.Holds.{isNamed};
 
 pub fn with_feeder(f: Feeder, r: Record) -> Record
     ensures { λ n. ⌜ n ≡ withFeeder f r ⌝ }
@@ -69,25 +72,43 @@ pub fn hear(k: usize, g: Ring, r: Record) -> Record
     n
 }
 
-// ---- a side begins
-fn announce(r: Record) -> Record
-    ensures { λ n. ⌜ n ≡ announced r ⌝ }
+// ---- a name is announced
+// The last name is the present one, whatever it was before; DestinationID rises.
+fn raise(r: Record) -> Record
+    ensures { λ n. ⌜ n ≡ announcedBy (risen (r .side .destination)) r ⌝ }
 {
     let id = sides::raise(r.side.destination);
+    let names = Names {
+        last: name::kept(r.job.held, r.settings.append, r.side.number),
+    };
     let mut n = r;
     n.side.destination = id;
+    n.names = names;
     n
 }
 
-// From the feeder it becomes Busy. Then Scanning, and DestinationID rises.
+// Where the present name is the last one, nothing moves.
+pub fn announce(r: Record) -> Record
+    ensures { λ n. ⌜ n ≡ announced r ⌝ }
+{
+    let n = raise(r);
+    let was = r.names;
+    let is = n.names;
+    if name::is_alike(was.last, is.last) {
+        return r;
+    }
+    n
+}
+
+// ---- a side begins
+// From the feeder it becomes Busy. Then Scanning.
 pub fn begin(r: Record) -> Record
     ensures { λ n. ⌜ n ≡ begun r ⌝ }
 {
     let was = r.feeder;
     let f = feeding::take_from(r.settings.feeder, was);
     let fed = with_feeder(f, r);
-    let scanning = stand(Scan::Scanning, fed);
-    announce(scanning)
+    stand(Scan::Scanning, fed)
 }
 
 // ---- end of job
@@ -172,15 +193,23 @@ fn number(r: Record) -> Record
     n
 }
 
-// What follows once the side has its next number.
+// The side has its next number. With Append 1 that is another name; else the name stays, and nothing is compared.
+fn number_on(r: Record) -> Record
+    ensures { λ n. ⌜ (isNamed r ≡ true → n ≡ announced (numbered r)) ⌝ }
+{
+    let n = number(r);
+    if r.settings.append == 1 {
+        return raise(n);
+    }
+    n
+}
+
+// What follows once the side has its next number and its name.
 fn drain_on(r: Record) -> Record
     ensures { λ n. ⌜ n ≡ drainedOn r ⌝ }
 {
     let from = r.settings.feeder;
     let f = r.feeder;
-    if r.job.stop == 1 {
-        return end(r);
-    }
     if r.side.count == 0 {
         return stand(Scan::Pending, r);
     }
@@ -193,9 +222,12 @@ fn drain_on(r: Record) -> Record
     begin(r)
 }
 
+// The drain step of a record whose last name is its own, as a held job's is.
 pub fn drain(r: Record) -> Record
-    ensures { λ n. ⌜ n ≡ drained r ⌝ }
+    ensures { λ n. ⌜ (isNamed r ≡ true → n ≡ drained r) ⌝ }
 {
-    let n = number(r);
-    drain_on(n)
+    if r.job.stop == 1 {
+        return end(r);
+    }
+    drain_on(number_on(r))
 }

@@ -6,7 +6,8 @@ use native.Mathlib.Omega.{arith}
 use lib.ListN.{length, replicate, length-append}
 use lib.Seq.{take-append-seam}
 use Rattle.name.specs.declared.Name.{Name}
-use Rattle.name.specs.Spelled.{nameRoom, padded, spelled}
+use Rattle.rules.specs.Name.{nameRoom}
+use Rattle.name.specs.Spelled.{padded, spelled}
 
 pub padded-inside : (bs : List ℕ) (x : Name) → x ≡ padded bs → x .len ≤ length (x .bytes)
 unfolding padded

@@ -7,7 +7,7 @@ use native.Mathlib.Numerals.{add-one}
 use lib.Dec.{eqb}
 use lib.ListN.{length, getD, drop, drop-of-length-le}
 use lib.Seq.{drop-cons}
-use Rattle.rules.specs.Machine.{same}
+use Rattle.rules.specs.Name.{same}
 
 pub same-short : (a b : List ℕ) → (length a ≡ length b → ⊥) → same a b ≡ false
 same-short [] [] h = absurd (h refl)

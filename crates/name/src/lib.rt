@@ -1,10 +1,11 @@
 // The present Destination's name, and whether a name is it.
+use rules::Named;
 use rules::Record;
 ghost use mathlib.Core.Path.{_≡_};
-ghost use Prim.Native.Nat.{_+_, _%_};
-ghost use Rattle.rules.specs.Moves.{name};
-ghost use Rattle.rules.specs.Machine.{same};
-ghost use Rattle.name.specs.Spelled.{padded};
+ghost use mathlib.Core.List.{[], _∷_};
+ghost use Prim.Native.Nat.{_+_, _*_, _%_};
+ghost use Rattle.rules.specs.Name.{nameOf, name, same, packed, spelt, alike};
+ghost use Rattle.name.specs.Spelled.{digitOf, padded};
 
 // The longest name's length.
 const MOST: usize = 18;
@@ -49,6 +50,67 @@ pub fn present(r: Record) -> Name
     }
     let bytes = [74, a, b, c, e, f, g, h, i, k, l, 46, 106, 112, 103, 0, 0, 0];
     Name { bytes, len: 15 }
+}
+
+// Two digits as two bytes in one number, 0x3030 for 00: 256 for each ten and 1 for each one is 246 for each ten beside the number.
+fn pair(n: u32) -> u16
+    ensures { λ p. ⌜ p ≡ packed (digitOf n 10 ∷ digitOf n 1 ∷ []) ⌝ }
+{
+    let x = n % 100;
+    (0x3030 + x + 246 * (x / 10)) as u16
+}
+
+// Four numbers of two bytes as one, the first highest.
+fn joined(a: u16, b: u16, c: u16, d: u16) -> u64
+    ensures { λ n. ⌜ n ≡ a * 281474976710656 + b * 4294967296 + c * 65536 + d ⌝ }
+{
+    a as u64 * 281474976710656 + b as u64 * 4294967296 + c as u64 * 65536 + d as u64
+}
+
+// J and the first seven digits of a job; 0x4A30 is J0.
+fn front(job: u32) -> u64
+    ensures { λ n. ⌜ n ≡ packed (74 ∷ digitOf job 1000000000 ∷ digitOf job 100000000 ∷ digitOf job 10000000 ∷ digitOf job 1000000
+        ∷ digitOf job 100000 ∷ digitOf job 10000 ∷ digitOf job 1000 ∷ []) ⌝ }
+{
+    let high = 0x4A30 + (job / 1000000000) as u16;
+    joined(
+        high,
+        pair(job / 10000000),
+        pair(job / 100000),
+        pair(job / 1000),
+    )
+}
+
+// A name as the record keeps it: its bytes in three numbers, two digits at a time. 0x2E6A is .j, 0x7067 pg, 0x6A70 jp.
+pub fn kept(job: u32, append: u8, number: u16) -> Named
+    ensures { λ n. ⌜ n ≡ spelt (nameOf job append number) ⌝ }
+{
+    let side = number as u32;
+    let first = front(job);
+    let next = pair(job / 10);
+    let last = digit(job) as u16 * 256;
+    if append == 1 {
+        let hundreds = digit(side / 100) as u16;
+        return Named {
+            first,
+            second: joined(next, last + hundreds, pair(side), 0x2E6A),
+            third: 0x7067,
+            len: 18,
+        };
+    }
+    Named {
+        first,
+        second: joined(next, last + 0x2E, 0x6A70, 0x6700),
+        third: 0,
+        len: 15,
+    }
+}
+
+// One kept name is the other.
+pub fn is_alike(a: Named, b: Named) -> bool
+    ensures { λ t. ⌜ t ≡ alike a b ⌝ }
+{
+    (a.first == b.first) & (a.second == b.second) & (a.third == b.third) & (a.len == b.len)
 }
 
 // The same bytes. All are compared, so that the compiler compares many at once.

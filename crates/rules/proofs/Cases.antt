@@ -8,7 +8,7 @@ use Rattle.rules.specs.declared.Input.{Input}
 use Rattle.rules.specs.declared.Record.{Record}
 use Rattle.rules.specs.Record.{idle, pending, erred, on}
 use Rattle.rules.specs.Feeder.{pathAt, jamStops, sheetStops}
-use Rattle.rules.specs.Moves.{withFeeder, standing, quietAt, stopAt, fedBy, begun, ended, timedOut, readied, started, stopped, numbered}
+use Rattle.rules.specs.Moves.{withFeeder, standing, quietAt, stopAt, fedBy, announced, begun, ended, timedOut, readied, started, stopped, numbered}
 use Rattle.rules.specs.Moves.{faulted, waited, drained, moved, last, fetched, finished, sideEnded, feeds, caught, pathed, due, ticked}
 use Rattle.rules.proofs.Choice.{choice}
 
@@ -24,12 +24,12 @@ module _ (P : Record → Type 0) (r : Record) where
   stopped-cases e m = choice P _ e m
 
   pub drained-cases : (on (r .job .stop) ≡ true → P (ended (numbered r)))
-      → (on (r .job .stop) ≡ false → eqb (r .side .count) 0 ≡ true → P (standing Scan.Pending (numbered r)))
-      → (on (r .job .stop) ≡ false → eqb (r .side .count) 0 ≡ false → jamStops (r .settings .feeder) (r .feeder) ≡ true → P (faulted (numbered r)))
+      → (on (r .job .stop) ≡ false → eqb (r .side .count) 0 ≡ true → P (standing Scan.Pending (announced (numbered r))))
+      → (on (r .job .stop) ≡ false → eqb (r .side .count) 0 ≡ false → jamStops (r .settings .feeder) (r .feeder) ≡ true → P (faulted (announced (numbered r))))
       → (on (r .job .stop) ≡ false → eqb (r .side .count) 0 ≡ false → jamStops (r .settings .feeder) (r .feeder) ≡ false
-      → sheetStops (r .settings .feeder) (r .feeder) ≡ true → P (waited (numbered r)))
+      → sheetStops (r .settings .feeder) (r .feeder) ≡ true → P (waited (announced (numbered r))))
       → (on (r .job .stop) ≡ false → eqb (r .side .count) 0 ≡ false → jamStops (r .settings .feeder) (r .feeder) ≡ false
-      → sheetStops (r .settings .feeder) (r .feeder) ≡ false → P (begun (numbered r)))
+      → sheetStops (r .settings .feeder) (r .feeder) ≡ false → P (begun (announced (numbered r))))
       → P (drained r)
   unfolding drained
   drained-cases e p j w b = choice P _ e λ s. choice P _ (p s) λ c. choice P _ (j s c) λ x. choice P _ (w s c x) (b s c x)

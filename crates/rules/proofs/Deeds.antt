@@ -14,7 +14,7 @@ use Rattle.rules.specs.declared.Input.{Input}
 use Rattle.rules.specs.declared.Record.{Record}
 use Rattle.rules.specs.Record.{counted, endless, idle, pending, scanning, erred, busy, stuck, on, granting}
 use Rattle.rules.specs.Feeder.{stands, pathAt, trayAt, fed, driven, ejecting}
-use Rattle.rules.specs.Moves.{withFeeder, fedBy, settled, given, least, filled, feeds, caught}
+use Rattle.rules.specs.Moves.{withFeeder, fedBy, announced, settled, given, least, filled, feeds, caught}
 use Rattle.rules.specs.Calls.{ScanCall, StartScan, Start, Stop, Abort, GetDestination, Fetch, GetState, GetSideInformation, FeederCall, Load, Eject}
 use Rattle.rules.specs.Calls.{Reset, SetFeederMode, GetFeederState, GetFeederMode, Report, Bytes, SideEnded, Tray, Path, Tick, Call, scan, feeder}
 use Rattle.rules.specs.Calls.{report, Reason, n713, numberOf, State, Values, nothing, Outcome, lent, to, refused, answer}
@@ -132,15 +132,16 @@ module _ (s : State) (h : Good s) where
       let a = settled append (r .settings .append) in
       let n = length (s .bytes) in
       opens i
-      (started-sound (settled from (r .settings .feeder)) count (given a asked r) n
+      (started-sound (settled from (r .settings .feeder)) count (announced (given a asked r)) n
       (granting asked .seconds) (given-common a asked r n m (h .common)) (given-rests a asked r (idle-none (scanOf s) r i (h .phase)))
-      (w .0) (w .1) (w .2) (k .1 .1 .0))
+      (w .0) (w .1) (w .2) (k .1 .1 .0) refl)
   scan-done (Start j from count) k =
       let r = s .box in
       let w = begins-well from count (not-false _ (k .0)) in
       let q = resting (scanOf s) r (not-false _ (k .1 .1 .0)) (h .phase) in
       starts (or-l _ _ (k .1 .0)) (not-false _ (k .1 .1 .0))
-      (started-sound (settled from (r .settings .feeder)) count r (length (s .bytes)) (q .0) (h .common) (q .1) (w .0) (w .1) (w .2) (k .1 .1 .1 .0))
+      (started-sound (settled from (r .settings .feeder)) count r (length (s .bytes)) (q .0) (h .common) (q .1) (w .0) (w .1) (w .2) (k .1 .1 .1 .0)
+      (h .called (or-l _ _ (k .1 .0))))
   scan-done (Stop j) k =
       let i = or-l _ _ (k .0) in
       stops i (eqb-true _ _ (not-false _ (or-r (idle (scanOf s)) _ (k .0)))) (stopped-sound (s .box) (length (s .bytes)) i h)

@@ -16,11 +16,12 @@ use Rattle.rules.specs.declared.Record.{Record}
 use Rattle.rules.specs.Record.{greatest, mostRing, faultTime, endless, leastTime, mostTime, lastSide, mostSides, idle, pending, scanning, finishing}
 use Rattle.rules.specs.Record.{erred, busy, stuck, on, granting, limit, counted}
 use Rattle.rules.specs.Feeder.{stands, fails, fed, jamStops, taken, freed, late}
-use Rattle.rules.specs.Moves.{device, caught, withFeeder, quietAt, stopAt, begun, released, ended, timedOut, settled, nextJob, given, readied}
+use Rattle.rules.specs.Moves.{device, caught, withFeeder, quietAt, stopAt, announced, begun, released, ended, timedOut, settled, nextJob, given, readied}
 use Rattle.rules.specs.Moves.{started, stopped, numbered, drained, moved, last, fetched, filled, fallen, finished, sideEnded, feeds, due, ticked}
 use Rattle.rules.specs.Machine.{listed}
 use Rattle.rules.proofs.Choice.{choice, implied, vacuous, tollens, and-l, and-not}
 use Rattle.rules.proofs.Sound.{RingFit, FeederFit, Common, Held, Holding, Source, Glass, Resting, Reading, PhaseAt, Phase, Sound}
+use Rattle.rules.proofs.Naming.{Called}
 use Rattle.rules.proofs.Feeding.{busy-fit, side-free, driven-fit}
 use Rattle.rules.proofs.Cases.{started-cases, stopped-cases, drained-cases, fetched-cases, sideEnded-cases, ticked-cases}
 use Rattle.rules.proofs.RingLaws.{wrap-lt}
@@ -35,6 +36,13 @@ reading Scan.Pending r e p = absurd (false≢true e)
 reading Scan.Scanning r e p = p
 reading Scan.Finishing r e p = absurd (false≢true e)
 reading Scan.Erred r e p = absurd (false≢true e)
+
+pub scans-held : (s : Scan) → scanning s ≡ true → idle s ≡ false
+scans-held Scan.Idle e = absurd (false≢true e)
+scans-held Scan.Pending e = refl
+scans-held Scan.Scanning e = refl
+scans-held Scan.Finishing e = refl
+scans-held Scan.Erred e = refl
 
 abbrev pub Rests : Record → ℕ → Type 0
 Rests r lim = Resting (r .job) (r .ring .stored) (busy (r .feeder .state)) lim
@@ -90,6 +98,7 @@ refeed r n f e i h =
       phase =
           subst (PhaseAt (r .scanner .state) (r .job) (r .side .number) (r .side .count) (r .ring .stored) (on (r .settings .feeder))) (sym e)
           (h .phase);
+      called = h .called;
     }
 
 -- ---- end of job
@@ -109,6 +118,7 @@ released-sound why f r n free i h =
             feeder = i;
           };
       phase = record { job = refl; number = refl; count = refl; quiet = refl; stop = refl; empty = refl; free = free };
+      called = λ i. absurd (true≢false i);
     }
 
 pub ended-sound : (r : Record) (n : ℕ) → Common r n → Sound (ended r) n
@@ -127,7 +137,7 @@ quiet-phase Scan.Erred r q i e p = record { held = requiet _ _ e (p .held); stop
 
 -- quiet alone changes
 quieted : (r : Record) (n q : ℕ) → idle (r .scanner .state) ≡ false → q < due r → Sound r n → Sound (quietAt q r) n
-quieted r n q i e h = record { common = h .common; phase = quiet-phase (r .scanner .state) r q i e (h .phase) }
+quieted r n q i e h = record { common = h .common; phase = quiet-phase (r .scanner .state) r q i e (h .phase); called = h .called }
 
 pub ticked-sound : (r : Record) (n : ℕ) → Sound r n → Sound (ticked r) n
 ticked-sound r n h =
@@ -148,9 +158,9 @@ taken-fit true f e h = refit Feed.Busy (f .failure) f (free-path f e h) h
 taken-fit false f e h = h
 
 begun-sound : (r : Record) (n : ℕ) → Common r n → Holding (r .job) (r .job .granted .seconds) → jamStops (r .settings .feeder) (r .feeder) ≡ false
-    → Begins (on (r .settings .feeder)) (busy (r .feeder .state)) (r .side .count) → Sound (begun r) n
+    → Begins (on (r .settings .feeder)) (busy (r .feeder .state)) (r .side .count) → Called r → Sound (begun r) n
 unfolding begun
-begun-sound r n h p j g =
+begun-sound r n h p j g c =
     record {
       common =
           record {
@@ -161,6 +171,7 @@ begun-sound r n h p j g =
             feeder = taken-fit (on (r .settings .feeder)) (r .feeder) j (h .feeder);
           };
       phase = record { held = p; source = source-of (on (r .settings .feeder)) (r .feeder) (r .side .count) g };
+      called = λ _. c;
     }
 
 -- ---- the drain step, from Finishing with nothing stored
@@ -201,10 +212,11 @@ drained-sound r n h =
     let g = numbered-common r n (h .common) in
     drained-cases (λ (x : Record). Sound x n) r
     (λ _. ended-sound (numbered r) n g)
-    (λ s _. record { common = g; phase = record { held = h .held; stop = s; empty = h .empty; free = h .free } })
+    (λ s _. record { common = g; phase = record { held = h .held; stop = s; empty = h .empty; free = h .free }; called = λ _. refl })
     (λ s _ _. record {
       common = g;
       phase = record { held = requiet _ faultTime (omega (arith, h .quiet)) (h .held); stop = s; empty = h .empty; free = h .free };
+      called = λ _. refl;
     })
     (λ s _ _ _. record {
       common =
@@ -216,8 +228,10 @@ drained-sound r n h =
             feeder = g .feeder;
           };
       phase = record { held = h .held; stop = s; empty = h .empty; free = h .free };
+      called = λ _. refl;
     })
-    (λ s c j _. begun-sound (numbered r) n g (h .held) j (begins-more (on (r .settings .feeder)) _ (r .side .count) (h .glass) (eqb-false _ _ c)))
+    (λ s c j _. begun-sound (announced (numbered r)) n g (h .held) j
+    (begins-more (on (r .settings .feeder)) _ (r .side .count) (h .glass) (eqb-false _ _ c)) refl)
 
 -- ---- Fetch and Bytes
 moved-common : (k : ℕ) (r : Record) (n : ℕ) → k ≤ r .ring .stored → Common r n → Common (moved k n r) n
@@ -272,7 +286,7 @@ fetched-sound k r n i e h =
     let g = moved-common k r n e (h .common) in
     fetched-cases (λ (x : Record). Sound x n) r k n
     (λ l. drained-sound (moved k n r) n (moved-emptied (r .scanner .state) k n r l g (h .phase)))
-    (λ l. record { common = g; phase = moved-phase (r .scanner .state) k n r i l (h .phase) })
+    (λ l. record { common = g; phase = moved-phase (r .scanner .state) k n r i l (h .phase); called = h .called })
 
 filled-phase : (s : Scan) (k : ℕ) (r : Record) → scanning s ≡ true → Phase s r → Phase s (filled k r)
 unfolding filled
@@ -296,6 +310,7 @@ filled-sound k r n s e h =
             feeder = g .feeder;
           };
       phase = filled-phase (r .scanner .state) k r s (h .phase);
+      called = h .called;
     }
 
 -- ---- Side ended
@@ -336,6 +351,7 @@ sideEnded-sound r n s h =
     (λ e. record {
       common = common;
       phase = record { held = held; full = omega (arith, eqb-false (r .ring .stored) 0 e); free = free; glass = glass };
+      called = λ _. h .called (scans-held (r .scanner .state) s);
     })
 
 -- ---- Path
@@ -368,6 +384,7 @@ caught-sound r n e h =
             feeder = driven-fit Input.Jam (r .feeder) (g .feeder);
           };
       phase = record { held = jam-held (r .scanner .state) r e (h .phase); stop = refl; empty = refl; free = refl };
+      called = λ _. h .called (scans-held (r .scanner .state) (and-l _ _ e));
     }
 
 -- ---- Stop
@@ -385,6 +402,7 @@ stopped-sound r n i h =
     (λ e. record {
       common = record { ring = g .ring; side = g .side; settings = g .settings; stop = omega arith; feeder = g .feeder };
       phase = stop-phase (r .scanner .state) r i e (h .phase);
+      called = h .called;
     })
 
 -- ---- StartScan and Start
@@ -406,9 +424,10 @@ pub settled-fit : (v k : ℕ) → listed v ≡ true → k ≤ 1 → settled v k 
 settled-fit v k l h = choice (λ (x : ℕ). x ≤ 1) (eqb v device) (λ _. h) (λ e. omega (arith, leb-true v device l, eqb-false v device e))
 
 pub started-sound : (from c : ℕ) (r : Record) (n lim : ℕ) → Common r n → Rests r lim → from ≤ 1 → counted c ≡ true
-    → (on from || leb c 1 || eqb c endless) ≡ true → (not (eqb c 0) && jamStops from (r .feeder)) ≡ false → Sound (started from c r) n
+    → (on from || leb c 1 || eqb c endless) ≡ true → (not (eqb c 0) && jamStops from (r .feeder)) ≡ false → Called r
+    → Sound (started from c r) n
 unfolding readied
-started-sound from c r n lim g p m ok sides j =
+started-sound from c r n lim g p m ok sides j called =
     let common : Common (readied from c r) n =
     record {
       ring = g .ring;
@@ -419,9 +438,9 @@ started-sound from c r n lim g p m ok sides j =
     } in
     let held : Holding (readied from c r .job) (r .job .granted .seconds) = requiet 0 _ (omega (arith, p .held .low)) (p .held) in
     started-cases (λ (x : Record). Sound x n) r from c
-    (λ _. record { common = common; phase = record { held = held; stop = p .stop; empty = p .empty; free = p .free } })
+    (λ _. record { common = common; phase = record { held = held; stop = p .stop; empty = p .empty; free = p .free }; called = λ _. called })
     (λ z. begun-sound (readied from c r) n common held (and-not (not (eqb c 0)) _ j (ap not z))
-    (stored-begins (on from) _ c (eqb-false _ _ z) (p .free) sides))
+    (stored-begins (on from) _ c (eqb-false _ _ z) (p .free) sides) called)
 
 granting-in : (asked : ℕ) → (leastTime ≤ granting asked .seconds) × (granting asked .seconds ≤ mostTime)
 granting-in asked =

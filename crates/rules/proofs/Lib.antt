@@ -1,6 +1,7 @@
 pub mod Agrees
 pub mod Choice
 pub mod Guards
+pub mod Naming
 pub mod Sound
 pub mod Feeding
 pub mod Cases
@@ -14,4 +15,5 @@ pub mod Pictures
 pub mod Stops
 pub mod Ends
 pub mod Others
+pub mod Follows
 pub mod Theorems

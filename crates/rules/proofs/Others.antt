@@ -1,68 +1,27 @@
--- Demand 3, other jobs' calls: names of different jobs differ, a fetch by another job's name is 404, StartScan while a job is held 501.
-use Prim.Native.Nat.{ℕ, zero, suc, _+_, _*_, _/_, _%_, _^_, _≤_, _<_}
-use mathlib.Core.Path.{_≡_, refl, sym, _∙_, ap, ap₂}
-use mathlib.Core.Logic.{_↔_, _≢_}
-use mathlib.Core.Bool.{Bool, true, false, not, _&&_, cond, false≢true}
-use mathlib.Core.List.{List, [], _∷_, _++_}
+-- Demand 3, other jobs' calls: a fetch by another job's name is 404, StartScan while a job is held 501.
+use Prim.Native.Nat.{ℕ, _≤_}
+use mathlib.Core.Path.{_≡_, refl, _∙_, ap}
+use mathlib.Core.Logic.{_≢_}
+use mathlib.Core.Bool.{Bool, true, false, not, _&&_, cond}
+use mathlib.Core.List.{List, [], _∷_}
 use lib.Dec.{eqb}
 use lib.ListN.{length}
 use native.Mathlib.Omega.{arith}
-use native.Mathlib.Nat.{div-one, div-eq-of-lt, div-add-mod', div-div-eq-div-mul, pow-suc}
-use borrow.Author.Tests.{eqb-true, eqb-false, eq-eqb}
+use borrow.Author.Tests.{eqb-false}
 use Rattle.rules.specs.declared.Record.{Record}
 use Rattle.rules.specs.Record.{greatest, idle}
-use Rattle.rules.specs.Moves.{digits, name, nextJob, settled, given, readied, begun, released, drained, least, moved, filled, finished}
+use Rattle.rules.specs.Name.{name, same}
+use Rattle.rules.specs.Moves.{announced, nextJob, settled, given, readied, begun, released, drained, least, moved, filled, finished}
 use Rattle.rules.specs.Calls.{StartScan, Fetch, Call, scan, n601, n501, State, Outcome, refuse, answer}
-use Rattle.rules.specs.Machine.{listed, sidesListed, same, beginning, refusals, scanRefusals, scanEffect, reportEffect, effect, step}
+use Rattle.rules.specs.Machine.{listed, sidesListed, beginning, refusals, scanRefusals, scanEffect, reportEffect, effect, step}
 use Rattle.rules.specs.Watch.{scanOf, wasAccepted, World, after, live}
 use Rattle.rules.specs.Promises.{OfAnother, bearing, naming, asking}
-use Rattle.rules.proofs.Choice.{choice, and-l, and-r}
+use Rattle.rules.proofs.Choice.{choice}
+use Rattle.rules.proofs.Naming.{same-eq, names-differ}
 use Rattle.rules.proofs.Sound.{holding}
 use Rattle.rules.proofs.Cases.{started-cases, stopped-cases, drained-cases, fetched-cases, sideEnded-cases, ticked-cases}
 use Rattle.rules.proofs.Answers.{Good, plain, bearing-refused}
 use Rattle.rules.proofs.Deeds.{Deed, aside, opens, starts, stops, aborts, fetches, fills, sideEnds, jams, second, deed, step-sound}
-
--- ---- the box's test of names is equality
-same-eq : (xs ys : List ℕ) → same xs ys ≡ true → xs ≡ ys
-same-eq [] [] e = refl
-same-eq [] (y ∷ ys) e = absurd (false≢true e)
-same-eq (x ∷ xs) [] e = absurd (false≢true e)
-same-eq (x ∷ xs) (y ∷ ys) e =
-    ap₂ (λ (z : ℕ) (zs : List ℕ). z ∷ zs) (eqb-true x y (and-l (eqb x y) (same xs ys) e)) (same-eq xs ys (and-r (eqb x y) (same xs ys) e))
-
-same-self : (xs : List ℕ) → same xs xs ≡ true
-same-self [] = refl
-same-self (x ∷ xs) = rw (eq-eqb x x refl) (same-self xs)
-
-pub same-is : (xs ys : List ℕ) → (same xs ys ≡ true) ↔ (xs ≡ ys)
-same-is xs ys = (same-eq xs ys, λ (e : xs ≡ ys). rw e (same-self ys))
-
--- ---- k digits settle a number but for what lies above them
-head-is : {x y : ℕ} {xs ys : List ℕ} → x ∷ xs ≡ y ∷ ys → x ≡ y
-head-is e = cc
-
-tail-is : {x y : ℕ} {xs ys : List ℕ} → x ∷ xs ≡ y ∷ ys → xs ≡ ys
-tail-is e = cc
-
--- a digit and the number above it settle the number
-both : (a b : ℕ) → 48 + a % 10 ≡ 48 + b % 10 → a / 10 ≡ b / 10 → a ≡ b
-both a b d u = sym (div-add-mod' a 10) ∙ ap₂ (λ (x y : ℕ). x * 10 + y) u (omega (arith, d)) ∙ div-add-mod' b 10
-
-above : (a k : ℕ) → a / 10 ^ suc k ≡ a / 10 ^ k / 10
-above a k = ap (λ (x : ℕ). a / x) (pow-suc 10 k) ∙ sym (div-div-eq-div-mul a (10 ^ k) 10)
-
-settle : (k a b : ℕ) (xs ys : List ℕ) → digits k a ++ xs ≡ digits k b ++ ys → a / 10 ^ k ≡ b / 10 ^ k → a ≡ b
-settle zero a b xs ys e u = sym (div-one a) ∙ u ∙ div-one b
-settle (suc k) a b xs ys e u =
-    settle k a b xs ys (tail-is e) (both (a / 10 ^ k) (b / 10 ^ k) (head-is e) (sym (above a k) ∙ u ∙ above b k))
-
--- ten digits settle a number below 10,000,000,000
-pub ten-digits : (a b : ℕ) (xs ys : List ℕ) → a < 10000000000 → b < 10000000000 → digits 10 a ++ xs ≡ digits 10 b ++ ys → a ≡ b
-ten-digits a b xs ys l m e = settle 10 a b xs ys e (div-eq-of-lt l ∙ sym (div-eq-of-lt m))
-
-pub names-differ : (r x : Record) → r .job .held < 10000000000 → x .job .held < 10000000000 → r .job .held ≢ x .job .held → name r ≢ name x
-unfolding name
-names-differ r x l m d e = d (ten-digits (r .job .held) (x .job .held) _ _ l m (tail-is e))
 
 -- ---- the numbers given are at most 4,294,967,295
 next-most : (r : Record) → r .job .last ≤ greatest → nextJob r ≤ greatest
@@ -80,7 +39,7 @@ deed-most : {s : State} {c : Call} {o : Outcome} → Deed s c o → Most (s .box
 unfolding scanEffect reportEffect given readied begun released moved filled finished
 deed-most (aside n v f reply a) l = l
 deed-most {s} (opens {from} {count} {append} {asked} i g) l =
-    started-cases Most (given (settled append (s .box .settings .append)) asked (s .box)) (settled from (s .box .settings .feeder)) count
+    started-cases Most (announced (given (settled append (s .box .settings .append)) asked (s .box))) (settled from (s .box .settings .feeder)) count
     (λ _. next-most (s .box) l) (λ _. next-most (s .box) l)
 deed-most {s} (starts {j} {from} {count} i p g) l =
     started-cases Most (s .box) (settled from (s .box .settings .feeder)) count (λ _. l) (λ _. l)

@@ -12,7 +12,7 @@ use Rattle.rules.specs.declared.Ring.{Ring as RingPart}
 use Rattle.rules.specs.declared.Record.{Record}
 use Rattle.rules.specs.Record.{idle, granting}
 use Rattle.rules.specs.Ring.{queue}
-use Rattle.rules.specs.Moves.{settled, given, readied, begun, released, drained, least, moved, fetched, filled, finished}
+use Rattle.rules.specs.Moves.{announced, settled, given, readied, begun, released, drained, least, moved, fetched, filled, finished}
 use Rattle.rules.specs.Calls.{StartScan, Start, Stop, Abort, GetDestination, Fetch, GetState, GetSideInformation, Load, Eject, Reset, SetFeederMode}
 use Rattle.rules.specs.Calls.{GetFeederState, GetFeederMode, Bytes, SideEnded, Tray, Path, Tick, Call, scan, feeder, report, State, nothing, time}
 use Rattle.rules.specs.Calls.{Outcome, lent}
@@ -62,7 +62,7 @@ deed-flows {s} h (aside n v f reply a) = record { flow = λ _. rw (a .mute .unco
 deed-flows {s} h (opens {from} {count} {append} {asked} i g) =
     let c = scan (StartScan from count append asked) in
     started-cases (λ (x : Record). Flows s c (accepted (time (granting asked .seconds)) x s))
-    (given (settled append (s .box .settings .append)) asked (s .box)) (settled from (s .box .settings .feeder)) count
+    (announced (given (settled append (s .box .settings .append)) asked (s .box))) (settled from (s .box .settings .feeder)) count
     (λ _. record { flow = λ _. as-was s }) (λ _. record { flow = λ _. as-was s })
 deed-flows {s} h (starts {j} {from} {count} i p g) =
     let c = scan (Start j from count) in

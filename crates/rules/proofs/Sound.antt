@@ -17,6 +17,8 @@ use Rattle.rules.specs.declared.Ring.{Ring}
 use Rattle.rules.specs.declared.Record.{Record}
 use Rattle.rules.specs.Record.{leastTime, mostTime, faultTime, lastSide, mostRing, idle, scanning, finishing, busy, stuck, on, implies, exactly, limit}
 use Rattle.rules.specs.Record.{counted, everyAfter, every, idlePoints, heldPoints, ringPoints, feederPoints, markPoints, points, sound}
+use Rattle.rules.specs.Name.{nameStays}
+use Rattle.rules.proofs.Naming.{alike-eq, alike-self, Called}
 use Rattle.rules.proofs.Choice.{exactly-eq, eq-exactly, implied, vacuous, tollens, and-l, and-r}
 
 -- ---- what holds in every scan state
@@ -109,6 +111,7 @@ Phase s r =
 pub record Sound (r : Record) (n : ℕ) : Type 0 where
   pub common : Common r n
   pub phase : Phase (r .scanner .state) r
+  pub called : idle (r .scanner .state) ≡ false → Called r
 
 -- ---- every test of a list is true
 abbrev pub Holds : List Bool → Type 0
@@ -181,6 +184,13 @@ module _ (j : Job) (d : Side) (t : Settings) (f : Feeder) (g : Ring) (n : ℕ) w
       record { held = omega facts; full = omega facts; free = search off; glass = glass (on (t .feeder)) (d .count) (search) }
   phase Scan.Erred a b c e m = record { held = omega facts; stop = search no-stop; empty = omega facts; free = search off }
 
+called : (r : Record) → implies (not (idle (r .scanner .state))) (nameStays r) ≡ true → idle (r .scanner .state) ≡ false → Called r
+called r e i = alike-eq _ _ (met (idle (r .scanner .state)) i e)
+  where
+    met : (t : Bool) → t ≡ false → implies (not t) (nameStays r) ≡ true → nameStays r ≡ true
+    met true f h = absurd (true≢false f)
+    met false f h = h
+
 pub to-sound : (r : Record) (n : ℕ) → sound r n ≡ true → Sound r n
 unfolding sound
 to-sound r n e =
@@ -201,6 +211,7 @@ to-sound r n e =
             feeder = record { tray = omega facts; path = omega facts; jam = m .1 .1 .1 .1 .1 .0 };
           };
       phase = phase (r .job) (r .side) (r .settings) (r .feeder) (r .ring) n s a b c d m;
+      called = called r (h .1 .1 .1 .1 .1 .0);
     }
 
 -- ---- and back
@@ -299,6 +310,11 @@ stop-holds Scan.Scanning r p = implied (on (r .job .stop)) true refl
 stop-holds Scan.Finishing r p = implied (on (r .job .stop)) true refl
 stop-holds Scan.Erred r p = vacuous _ _ (p .stop)
 
+name-holds : (r : Record) (i : Bool) → idle (r .scanner .state) ≡ i → (idle (r .scanner .state) ≡ false → Called r)
+    → implies (not (idle (r .scanner .state))) (nameStays r) ≡ true
+name-holds r true i h = vacuous _ _ (ap not i)
+name-holds r false i h = implied (not (idle (r .scanner .state))) _ (alike-self _ _ (h i))
+
 pub from-sound : (r : Record) (n : ℕ) → Sound r n → sound r n ≡ true
 unfolding sound
 from-sound r n h =
@@ -328,7 +344,7 @@ from-sound r n h =
                   ),
                 ),
               ),
-              tt,
+              (name-holds r (idle s) refl (h .called), tt),
             ),
           ),
         ),

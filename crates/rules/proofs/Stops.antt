@@ -7,7 +7,7 @@ use lib.ListN.{length}
 use Rattle.rules.specs.declared.Scan.{Scan}
 use Rattle.rules.specs.declared.Record.{Record}
 use Rattle.rules.specs.Record.{idle, pending, scanning, finishing, erred, on, granting}
-use Rattle.rules.specs.Moves.{settled, given, readied, begun, released, drained, numbered, least, moved, filled, finished}
+use Rattle.rules.specs.Moves.{announced, settled, given, readied, begun, released, drained, numbered, least, moved, filled, finished}
 use Rattle.rules.specs.Calls.{StartScan, Start, Stop, Fetch, Bytes, SideEnded, Tray, Path, Tick, Call, scan, feeder, report, State, Values, nothing}
 use Rattle.rules.specs.Calls.{time, Outcome, to}
 use Rattle.rules.specs.Machine.{accepted, scanEffect, reportEffect, step}
@@ -92,7 +92,7 @@ stays {s} m x e a =
 
 -- a drain step inside a call that is no Stop, from a state where a new side is one that begins
 drain-marks : (s : State) (c : Call) (v : Values) (reply : List ℕ) (r : Record)
-    → begins c (scanOf s) (record { number = 0; values = v; state = to (begun (numbered r)) s; reply = reply }) ≡ true
+    → begins c (scanOf s) (record { number = 0; values = v; state = to (begun (announced (numbered r))) s; reply = reply }) ≡ true
     → Marks s c (record { number = 0; values = v; state = to (drained r) s; reply = reply })
 unfolding begun released
 drain-marks s c v reply r b =
@@ -114,7 +114,7 @@ deed-marks {s} h (opens {from} {count} {append} {asked} i g) =
     let c = scan (StartScan from count append asked) in
     let u = idle-under (scanOf s) i in
     started-cases (λ (x : Record). Marks s c (accepted (time (granting asked .seconds)) x s))
-    (given (settled append (s .box .settings .append)) asked (s .box)) (settled from (s .box .settings .feeder)) count
+    (announced (given (settled append (s .box .settings .append)) asked (s .box))) (settled from (s .box .settings .feeder)) count
     (λ _. nowhere refl) (λ _. anew (unmarked (scanOf s) (s .box) u (h .phase)) (rw (not-under (scanOf s) u)))
 deed-marks {s} h (starts {j} {from} {count} i p g) =
     let c = scan (Start j from count) in

@@ -1,5 +1,5 @@
 -- What the rules promise, each theorem with its whole statement. The words are those of specs/Promises.antt.
-use Prim.Native.Nat.{ℕ, _-_, _≤_, _<_}
+use Prim.Native.Nat.{ℕ, suc, _+_, _-_, _%_, _≤_, _<_}
 use mathlib.Core.Path.{_≡_, refl, sym, _∙_, ap, ap₂, subst}
 use mathlib.Core.Logic.{_↔_, _≢_}
 use mathlib.Core.Bool.{Bool, true, false, _&&_, _||_, cond, or-true, true≢false, false≢true}
@@ -9,15 +9,17 @@ use lib.Dec.{eqb, leb, ltb}
 use lib.IntN.{pos, negsuc}
 use lib.ListN.{length}
 use native.Mathlib.Omega.{arith}
+use native.Mathlib.Nat.{add-mod-right}
 use borrow.Author.Tests.{eqb-true, eq-eqb, le-leb, leb-true, ltb-false, ltb-true}
 use Rattle.rules.specs.declared.Record.{Record}
-use Rattle.rules.specs.Record.{greatest, negatives, endless, mostSides, signed, counted, sound}
-use Rattle.rules.specs.Moves.{nextJob, name}
-use Rattle.rules.specs.Calls.{StartScan, Fetch, Call, scan, n604, named, State, Outcome}
-use Rattle.rules.specs.Machine.{listed, sidesListed, same, runBy, allGuards, step, Ran, run, start, refusals}
-use Rattle.rules.specs.Watch.{wasAccepted, sign, scanOf, Tagged, World, after, live, born, lived, holder, told}
+use Rattle.rules.specs.Record.{greatest, negatives, endless, mostSides, on, signed, counted, sound}
+use Rattle.rules.specs.Name.{name, same, spelt}
+use Rattle.rules.specs.Moves.{nextJob}
+use Rattle.rules.specs.Calls.{StartScan, GetDestination, Fetch, Call, scan, n604, named, State, destination, Outcome}
+use Rattle.rules.specs.Machine.{listed, sidesListed, runBy, allGuards, step, Ran, run, start, refusals}
+use Rattle.rules.specs.Watch.{wasAccepted, sign, scanOf, Tagged, lastName, changed, World, after, live, born, lived, holder, told}
 use Rattle.rules.specs.Promises.{reasons, below, bears, All, Ringed, First, OneOf, Refusal, Sides, Ends, OnTime, Fate, Silent, NotPutOff}
-use Rattle.rules.specs.Promises.{OfAnother, Yields}
+use Rattle.rules.specs.Promises.{OfAnother, destinationOf, FollowsName, Yields}
 use Rattle.rules.specs.Cases.{Case, Right}
 use Rattle.rules.specs.Table.{table}
 use Rattle.rules.proofs.Agrees as agrees
@@ -31,8 +33,10 @@ use Rattle.rules.proofs.Holder.{holds}
 use Rattle.rules.proofs.Pictures.{Waiting, next-waiting, live-waiting, holder-yields, just-over, live-over, over-yields}
 use Rattle.rules.proofs.Stops.{Marked, live-marked}
 use Rattle.rules.proofs.Ends.{on-time-at, fate, not-put-off}
+use Rattle.rules.proofs.Naming as naming
 use Rattle.rules.proofs.Others as others
 use Rattle.rules.proofs.Others.{Numbers, live-numbers}
+use Rattle.rules.proofs.Follows.{Recalls, live-recalls, born-last, follows, name-stays, same-last, fetched-name, told-name}
 
 -- ---- 1. In order: the number is n exactly when n's test holds and no earlier one does, and 0 exactly when none holds
 pub in-order : (s : State) (c : Call) (n : ℕ) → (step s c .number ≡ n) ↔ First n (allGuards c s)
@@ -70,6 +74,7 @@ fresh-good ring l =
             feeder = record { tray = omega arith; path = omega arith; jam = refl };
           };
       phase = record { job = refl; number = refl; count = refl; quiet = refl; stop = refl; empty = refl; free = refl };
+      called = λ i. absurd (true≢false i);
     }
 
 run-good : (cs : List Call) (s : State) → Good s → Good (run s cs .end)
@@ -121,6 +126,9 @@ lived-marked ring l cs = live-marked cs (born ring) (record { good = fresh-good 
 lived-numbers : (ring : List ℕ) → Ringed ring → (cs : List Call) → Numbers (lived ring cs)
 lived-numbers ring l cs = live-numbers cs (born ring) (record { good = fresh-good ring l; most = omega arith })
 
+lived-recalls : (ring : List ℕ) → Ringed ring → (cs : List Call) → Recalls (lived ring cs)
+lived-recalls ring l cs = live-recalls cs (born ring) (record { good = fresh-good ring l; last = born-last; count = refl })
+
 -- a list, and then another, is the two lists joined
 pub live-joined : (cs ds : List Call) (w : World) → live (live w cs) ds ≡ live w (cs ++ ds)
 unfolding live
@@ -155,10 +163,10 @@ bearing-refused s c j = answers.bearing-refused s c j
 
 -- the box's test of names is equality, and ten digits settle the job's number: names of different jobs differ
 pub same-is : (xs ys : List ℕ) → (same xs ys ≡ true) ↔ (xs ≡ ys)
-same-is xs ys = others.same-is xs ys
+same-is xs ys = naming.same-is xs ys
 
 pub names-differ : (r x : Record) → r .job .held < 10000000000 → x .job .held < 10000000000 → r .job .held ≢ x .job .held → name r ≢ name x
-names-differ = others.names-differ
+names-differ = naming.names-differ
 
 -- while a job is held a fetch by another job's name is 404
 pub other-name-404 : (ring : List ℕ) → Ringed ring → (cs : List Call) (j : ℕ) → holder (lived ring cs) ≡ some j
@@ -203,7 +211,62 @@ no-late-byte ring l cs c j e later d =
     (over-yields j (live w (c ∷ later)) (live-waiting (c ∷ later) w h)
     (live-over j later (after w c) (next-waiting w c h) (just-over j w c (h .good) e)) d)
 
--- ---- 8. Settled: any two outcomes that a contract `result ≡ definition` allows are equal
+-- ---- 8. DestinationID follows the name (02, #101). It rises by one at a call exactly when a job is held after it and its name
+-- differs from the last name that any job held before it, and else stays
+pub follows-name : (ring : List ℕ) → Ringed ring → (cs : List Call) (c : Call) → FollowsName (lived ring cs) c
+follows-name ring l cs c = follows (lived ring cs) (lived-recalls ring l cs) c
+
+-- so it is the number of these changes, in 32 bits: 4,294,967,295 of them, and the next returns it to 0
+pub id-counts : (ring : List ℕ) → Ringed ring → (cs : List Call) → destinationOf (lived ring cs) ≡ changed (lived ring cs .past) % suc greatest
+id-counts ring l cs = lived-recalls ring l cs .count
+
+-- the last name in the record is the last that any job held, through Idle too
+pub last-remembered : (ring : List ℕ) → Ringed ring → (cs : List Call) → lived ring cs .now .box .names .last ≡ spelt (lastName (lived ring cs .past))
+last-remembered ring l cs = lived-recalls ring l cs .last
+
+-- GetDestination tells the holder that name, and this number
+pub destination-told : (ring : List ℕ) → Ringed ring → (cs : List Call) (j : ℕ) → holder (lived ring cs) ≡ some j
+    → step (lived ring cs .now) (scan (GetDestination (lived ring cs .now .box .job .held))) .values
+    ≡ destination (lastName (lived ring cs .past)) (destinationOf (lived ring cs))
+destination-told ring l cs j x = told-name (lived ring cs) (lived-recalls ring l cs) (holds (lived ring cs) x .0)
+
+-- it never rises while the name stays
+pub never-while-it-stays : (ring : List ℕ) → Ringed ring → (cs : List Call) (c : Call)
+    → lastName (after (lived ring cs) c .past) ≡ lastName (lived ring cs .past) → destinationOf (after (lived ring cs) c) ≡ destinationOf (lived ring cs)
+never-while-it-stays ring l cs c = name-stays (lived ring cs) (lived-recalls ring l cs) c
+
+-- two pictures with different names are never fetched under one DestinationID, but where it has gone all the way round between them
+pub one-name : (ring : List ℕ) → Ringed ring → (cs between : List Call) (a b : List ℕ) (most more : ℕ) (reply room : List ℕ)
+    → wasAccepted (step (lived ring cs .now) (scan (Fetch a most reply))) ≡ true
+    → wasAccepted (step (lived ring (cs ++ between) .now) (scan (Fetch b more room))) ≡ true
+    → destinationOf (lived ring (cs ++ between)) ≡ destinationOf (lived ring cs)
+    → changed (lived ring (cs ++ between) .past) ≤ changed (lived ring cs .past) + greatest
+    → a ≡ b
+one-name ring l cs between a b most more reply room first then e short =
+    let w = lived ring cs in
+    let v = lived ring (cs ++ between) in
+    let here = lived-recalls ring l cs in
+    let there = lived-recalls ring l (cs ++ between) in
+    fetched-name w here a most reply first
+    ∙ sym (same-last between w v (live-joined cs between (born ring)) (sym (there .count) ∙ e ∙ here .count) short)
+    ∙ sym (fetched-name v there b more room then)
+
+-- the limit: after 4,294,967,296 changes the number is what it was
+pub id-returns : (ring : List ℕ) → Ringed ring → (cs between : List Call)
+    → changed (lived ring (cs ++ between) .past) ≡ changed (lived ring cs .past) + suc greatest
+    → destinationOf (lived ring (cs ++ between)) ≡ destinationOf (lived ring cs)
+id-returns ring l cs between e =
+    id-counts ring l (cs ++ between) ∙ ap (λ (n : ℕ). n % suc greatest) e ∙ add-mod-right (changed (lived ring cs .past)) (suc greatest)
+    ∙ sym (id-counts ring l cs)
+
+-- names are equal exactly when job and Append agree and, with Append 1, SideNumber: so a drain step compares no name
+pub name-parts : (r x : Record) → r .job .held < 10000000000 → x .job .held < 10000000000 → r .side .number < 1000 → x .side .number < 1000
+    → (name r ≡ name x)
+    ↔ ((r .job .held ≡ x .job .held) × (on (r .settings .append) ≡ on (x .settings .append))
+    × (on (r .settings .append) ≡ true → r .side .number ≡ x .side .number))
+name-parts = naming.name-parts
+
+-- ---- 9. Settled: any two outcomes that a contract `result ≡ definition` allows are equal
 pub settled : {A : Type 0} {x y d : A} → x ≡ d → y ≡ d → x ≡ y
 settled p q = p ∙ sym q
 
@@ -216,7 +279,7 @@ settled-list box right (c ∷ cs) s =
     ap₂ (λ (o : Outcome) (rest : Ran). record { outcomes = o ∷ rest .outcomes; end = rest .end }) (right s c)
     (ap (λ (o : Outcome). runBy box (o .state) cs) (right s c) ∙ settled-list box right cs (step s c .state))
 
--- ---- 9. The paper's cases. Each holds its own proof, so every list of them is right: those of the calls as one table, those of
+-- ---- 10. The paper's cases. Each holds its own proof, so every list of them is right: those of the calls as one table, those of
 -- soundness (Judged), of the watcher (Watched) and of the promises' words (Worded)
 pub cases-hold : {A : Type 0} (cs : List (Case A)) → All Right cs
 cases-hold cs = agrees.all-right cs

@@ -12,7 +12,7 @@ use Rattle.rules.specs.declared.Scan.{Scan}
 use Rattle.rules.specs.declared.Record.{Record}
 use Rattle.rules.specs.Record.{idle, scanning, finishing, on, granting}
 use Rattle.rules.specs.Moves as moves
-use Rattle.rules.specs.Moves.{settled, given, readied, begun, released, drained, least, moved, fetched, filled, finished}
+use Rattle.rules.specs.Moves.{announced, settled, given, readied, begun, released, drained, least, moved, fetched, filled, finished}
 use Rattle.rules.specs.Calls.{StartScan, Start, Stop, Fetch, Bytes, SideEnded, Tick, Call, scan, report, State, nothing, time, Outcome}
 use Rattle.rules.specs.Machine.{accepted, scanEffect, reportEffect, step}
 use Rattle.rules.specs.Watch.{scanOf, timeIn, sign, ticks, counting, seconds, orElse, timeAnswered, World, after, live}
@@ -65,7 +65,7 @@ deed-counts h (aside n v f reply a) =
 deed-counts {s} h (opens {from} {count} {append} {asked} i g) =
     let c = scan (StartScan from count append asked) in
     started-cases (λ (x : Record). Counts s c (accepted (time (granting asked .seconds)) x s))
-    (given (settled append (s .box .settings .append)) asked (s .box)) (settled from (s .box .settings .feeder)) count
+    (announced (given (settled append (s .box .settings .append)) asked (s .box))) (settled from (s .box .settings .feeder)) count
     (λ _. record { grant = refl; count = λ _. alive refl refl }) (λ _. record { grant = refl; count = λ _. alive refl refl })
 deed-counts {s} h (starts {j} {from} {count} i p g) =
     let c = scan (Start j from count) in

@@ -1,5 +1,5 @@
--- When a record is sound: both sides of every test of the paper's five points, each with all other tests passed where that can
--- be; and the words of the record.
+-- When a record is sound: both sides of every test of the paper's five points and of the name's, each with all other tests passed
+-- where that can be; and the words of the record.
 use Prim.Native.Nat.{ℕ}
 use Prim.Native.String.{String}
 use mathlib.Core.Path.{_≡_, refl}
@@ -11,10 +11,15 @@ use Rattle.rules.specs.declared.Scan.the-variants.{Idle, Pending, Scanni
 use Rattle.rules.specs.declared.Feed.{Feed}
 use Rattle.rules.specs.declared.Feed.the-variants.{Unloaded, Loaded, Busy, Erred as Stuck}
 use Rattle.rules.specs.declared.Failure.the-variants.{None, Jammed, Timeout}
+use Rattle.rules.specs.declared.Named.{Named}
 use Rattle.rules.specs.declared.Record.{Record}
+use Rattle.rules.specs.Name.{eighteen, packed, spelt, present, alike}
 use Rattle.rules.specs.Record.{idle, pending, scanning, finishing, erred, unloaded, busy, stuck, on, marked, implies, exactly, every, counted, signed}
-use Rattle.rules.specs.Record.{granting, limit, fresh, idlePoints, heldPoints, ringPoints, feederPoints, markPoints, sound}
-use Rattle.rules.specs.Cases.{Case, that, final, box, scanner, job, side, settings, feed, ring, minusOne, minusTwo}
+use Rattle.rules.specs.Record.{granting, limit, fresh, idlePoints, heldPoints, ringPoints, feederPoints, markPoints, namePoints, points, sound}
+use Rattle.rules.specs.Cases.{Case, that, final, box, scanner, job, side, settings, feed, ring, minusOne, minusTwo, J41, J41-000, J41-006, J41-007}
+use Rattle.rules.specs.Cases.{J41-999, J42, J42-001, J43-001, J1234567890, J1234567890-987, J4294967295-999, J1-001, J1-002, J2, J31, J31-046, J34}
+use Rattle.rules.specs.Cases.{kept, noName, K1-001, K1-002, K2, K31, K31-046, K34, K41, K41-000, K41-006, K41-007, K41-999, K42, K42-001, K43-001}
+use Rattle.rules.specs.Cases.{K1234567890, K1234567890-987, K4294967295-999, calledLast}
 
 -- with a ring of n bytes
 abbrev pub judged : (says : String) (n : ℕ) (r : Record) (due : Bool) → sound r n ≡ due → Case Bool
@@ -26,7 +31,8 @@ unfolding final
 idleJudged =
     judged "Idle: the last number and granted are free" 5
     (box (scanner Idle Timeout) (job 0 41 77 0 0) (side 1 0 90) (settings 1 0) (feed Loaded Jammed 1 0) (ring 3 0)) true refl
-    ∷ judged "fresh" 5 (box (scanner Idle None) (job 0 0 60 0 0) (side 1 0 0) (settings 1 1) (feed Unloaded None 0 0) (ring 0 0)) true refl
+    ∷ judged "fresh" 5
+    (calledLast noName (box (scanner Idle None) (job 0 0 60 0 0) (side 1 0 0) (settings 1 1) (feed Unloaded None 0 0) (ring 0 0))) true refl
     ∷ judged "Idle with a job" 5 (box (scanner Idle Timeout) (job 41 41 77 0 0) (side 1 0 90) (settings 1 0) (feed Loaded Jammed 1 0) (ring 3 0)) false refl
     ∷ judged "Pending" 5 (box (scanner Pending Timeout) (job 41 41 77 13 0) (side 6 8 90) (settings 1 0) (feed Loaded Jammed 1 0) (ring 3 0)) true refl
     ∷ judged "Pending with job 0" 5
@@ -273,11 +279,133 @@ marksJudged =
     (box (scanner Erred Timeout) (job 41 41 77 13 1) (side 6 8 90) (settings 1 0) (feed Stuck Jammed 0 1) (ring 3 0)) false refl
     ∷ []
 
+-- ---- While a job is held, the last name is that job's (02, #101). In Idle it is any
+pub namesJudged : List (Case Bool)
+unfolding final
+namesJudged =
+    judged "Pending: its own name, with Append" 5
+    (calledLast K41-006 (box (scanner Pending Timeout) (job 41 41 77 13 0) (side 6 8 90) (settings 1 1) (feed Loaded Jammed 1 0) (ring 3 0))) true refl
+    ∷ judged "Scanning: its own name, with Append" 5
+    (calledLast K41-006 (box (scanner Scanning Timeout) (job 41 41 77 13 0) (side 6 8 90) (settings 1 1) (feed Busy Jammed 1 0) (ring 3 4))) true refl
+    ∷ judged "Finishing: its own name, with Append" 5
+    (calledLast K41-006 (box (scanner Finishing Timeout) (job 41 41 77 13 0) (side 6 8 90) (settings 1 1) (feed Loaded Jammed 1 0) (ring 3 4))) true refl
+    ∷ judged "Erred: its own name, with Append" 5
+    (calledLast K41-006 (box (scanner Erred Timeout) (job 41 41 77 13 0) (side 6 8 90) (settings 1 1) (feed Stuck Jammed 0 1) (ring 3 0))) true refl
+    ∷ judged "Pending: its own name, without Append" 5
+    (calledLast K41 (box (scanner Pending Timeout) (job 41 41 77 13 0) (side 6 8 90) (settings 1 0) (feed Loaded Jammed 1 0) (ring 3 0))) true refl
+    ∷ judged "Scanning: its own name, without Append" 5
+    (calledLast K41 (box (scanner Scanning Timeout) (job 41 41 77 13 0) (side 6 8 90) (settings 1 0) (feed Busy Jammed 1 0) (ring 3 4))) true refl
+    ∷ judged "Finishing: its own name, without Append" 5
+    (calledLast K41 (box (scanner Finishing Timeout) (job 41 41 77 13 0) (side 6 8 90) (settings 1 0) (feed Loaded Jammed 1 0) (ring 3 4))) true refl
+    ∷ judged "Erred: its own name, without Append" 5
+    (calledLast K41 (box (scanner Erred Timeout) (job 41 41 77 13 0) (side 6 8 90) (settings 1 0) (feed Stuck Jammed 0 1) (ring 3 0))) true refl
+    ∷ judged "Pending: the name without its side" 5
+    (calledLast K41 (box (scanner Pending Timeout) (job 41 41 77 13 0) (side 6 8 90) (settings 1 1) (feed Loaded Jammed 1 0) (ring 3 0))) false refl
+    ∷ judged "Scanning: the name without its side" 5
+    (calledLast K41 (box (scanner Scanning Timeout) (job 41 41 77 13 0) (side 6 8 90) (settings 1 1) (feed Busy Jammed 1 0) (ring 3 4))) false refl
+    ∷ judged "Finishing: the name without its side" 5
+    (calledLast K41 (box (scanner Finishing Timeout) (job 41 41 77 13 0) (side 6 8 90) (settings 1 1) (feed Loaded Jammed 1 0) (ring 3 4))) false refl
+    ∷ judged "Erred: the name without its side" 5
+    (calledLast K41 (box (scanner Erred Timeout) (job 41 41 77 13 0) (side 6 8 90) (settings 1 1) (feed Stuck Jammed 0 1) (ring 3 0))) false refl
+    ∷ judged "Pending: a side in the name where there is none" 5
+    (calledLast K41-006 (box (scanner Pending Timeout) (job 41 41 77 13 0) (side 6 8 90) (settings 1 0) (feed Loaded Jammed 1 0) (ring 3 0))) false refl
+    ∷ judged "Scanning: a side in the name where there is none" 5
+    (calledLast K41-006 (box (scanner Scanning Timeout) (job 41 41 77 13 0) (side 6 8 90) (settings 1 0) (feed Busy Jammed 1 0) (ring 3 4))) false refl
+    ∷ judged "Finishing: a side in the name where there is none" 5
+    (calledLast K41-006 (box (scanner Finishing Timeout) (job 41 41 77 13 0) (side 6 8 90) (settings 1 0) (feed Loaded Jammed 1 0) (ring 3 4))) false refl
+    ∷ judged "Erred: a side in the name where there is none" 5
+    (calledLast K41-006 (box (scanner Erred Timeout) (job 41 41 77 13 0) (side 6 8 90) (settings 1 0) (feed Stuck Jammed 0 1) (ring 3 0))) false refl
+    ∷ judged "Pending: another side" 5
+    (calledLast K41-007 (box (scanner Pending Timeout) (job 41 41 77 13 0) (side 6 8 90) (settings 1 1) (feed Loaded Jammed 1 0) (ring 3 0))) false refl
+    ∷ judged "Scanning: another side" 5
+    (calledLast K41-007 (box (scanner Scanning Timeout) (job 41 41 77 13 0) (side 6 8 90) (settings 1 1) (feed Busy Jammed 1 0) (ring 3 4))) false refl
+    ∷ judged "Finishing: another side" 5
+    (calledLast K41-007 (box (scanner Finishing Timeout) (job 41 41 77 13 0) (side 6 8 90) (settings 1 1) (feed Loaded Jammed 1 0) (ring 3 4))) false refl
+    ∷ judged "Erred: another side" 5
+    (calledLast K41-007 (box (scanner Erred Timeout) (job 41 41 77 13 0) (side 6 8 90) (settings 1 1) (feed Stuck Jammed 0 1) (ring 3 0))) false refl
+    ∷ judged "Pending: another job" 5
+    (calledLast K42 (box (scanner Pending Timeout) (job 41 41 77 13 0) (side 6 8 90) (settings 1 0) (feed Loaded Jammed 1 0) (ring 3 0))) false refl
+    ∷ judged "Scanning: another job" 5
+    (calledLast K42 (box (scanner Scanning Timeout) (job 41 41 77 13 0) (side 6 8 90) (settings 1 0) (feed Busy Jammed 1 0) (ring 3 4))) false refl
+    ∷ judged "Finishing: another job" 5
+    (calledLast K42 (box (scanner Finishing Timeout) (job 41 41 77 13 0) (side 6 8 90) (settings 1 0) (feed Loaded Jammed 1 0) (ring 3 4))) false refl
+    ∷ judged "Erred: another job" 5
+    (calledLast K42 (box (scanner Erred Timeout) (job 41 41 77 13 0) (side 6 8 90) (settings 1 0) (feed Stuck Jammed 0 1) (ring 3 0))) false refl
+    ∷ judged "Pending: no last name" 5
+    (calledLast noName (box (scanner Pending Timeout) (job 41 41 77 13 0) (side 6 8 90) (settings 1 1) (feed Loaded Jammed 1 0) (ring 3 0))) false refl
+    ∷ judged "Scanning: no last name" 5
+    (calledLast noName (box (scanner Scanning Timeout) (job 41 41 77 13 0) (side 6 8 90) (settings 1 1) (feed Busy Jammed 1 0) (ring 3 4))) false refl
+    ∷ judged "Finishing: no last name" 5
+    (calledLast noName (box (scanner Finishing Timeout) (job 41 41 77 13 0) (side 6 8 90) (settings 1 1) (feed Loaded Jammed 1 0) (ring 3 4))) false refl
+    ∷ judged "Erred: no last name" 5
+    (calledLast noName (box (scanner Erred Timeout) (job 41 41 77 13 0) (side 6 8 90) (settings 1 1) (feed Stuck Jammed 0 1) (ring 3 0))) false refl
+    ∷ judged "Pending: bytes 1 to 8 one too high" 5
+    (calledLast (kept 0x4A30303030303031 0x3034313030362E6A 0x7067 18)
+    (box (scanner Pending Timeout) (job 41 41 77 13 0) (side 6 8 90) (settings 1 1) (feed Loaded Jammed 1 0) (ring 3 0))) false refl
+    ∷ judged "Pending: bytes 9 to 16 one too high" 5
+    (calledLast (kept 0x4A30303030303030 0x3034313030362E6B 0x7067 18)
+    (box (scanner Pending Timeout) (job 41 41 77 13 0) (side 6 8 90) (settings 1 1) (feed Loaded Jammed 1 0) (ring 3 0))) false refl
+    ∷ judged "Pending: bytes 17 and 18 one too high" 5
+    (calledLast (kept 0x4A30303030303030 0x3034313030362E6A 0x7068 18)
+    (box (scanner Pending Timeout) (job 41 41 77 13 0) (side 6 8 90) (settings 1 1) (feed Loaded Jammed 1 0) (ring 3 0))) false refl
+    ∷ judged "Pending: the length one too high" 5
+    (calledLast (kept 0x4A30303030303030 0x3034313030362E6A 0x7067 19)
+    (box (scanner Pending Timeout) (job 41 41 77 13 0) (side 6 8 90) (settings 1 1) (feed Loaded Jammed 1 0) (ring 3 0))) false refl
+    ∷ judged "Scanning: bytes 1 to 8 one too low" 5
+    (calledLast (kept 0x4A3030303030302F 0x3034313030362E6A 0x7067 18)
+    (box (scanner Scanning Timeout) (job 41 41 77 13 0) (side 6 8 90) (settings 1 1) (feed Busy Jammed 1 0) (ring 3 4))) false refl
+    ∷ judged "Scanning: bytes 9 to 16 one too low" 5
+    (calledLast (kept 0x4A30303030303030 0x3034313030362E69 0x7067 18)
+    (box (scanner Scanning Timeout) (job 41 41 77 13 0) (side 6 8 90) (settings 1 1) (feed Busy Jammed 1 0) (ring 3 4))) false refl
+    ∷ judged "Scanning: bytes 17 and 18 one too low" 5
+    (calledLast (kept 0x4A30303030303030 0x3034313030362E6A 0x7066 18)
+    (box (scanner Scanning Timeout) (job 41 41 77 13 0) (side 6 8 90) (settings 1 1) (feed Busy Jammed 1 0) (ring 3 4))) false refl
+    ∷ judged "Scanning: the length one too low" 5
+    (calledLast (kept 0x4A30303030303030 0x3034313030362E6A 0x7067 17)
+    (box (scanner Scanning Timeout) (job 41 41 77 13 0) (side 6 8 90) (settings 1 1) (feed Busy Jammed 1 0) (ring 3 4))) false refl
+    ∷ judged "Finishing: bytes 1 to 8 one too high" 5
+    (calledLast (kept 0x4A30303030303031 0x3034313030362E6A 0x7067 18)
+    (box (scanner Finishing Timeout) (job 41 41 77 13 0) (side 6 8 90) (settings 1 1) (feed Loaded Jammed 1 0) (ring 3 4))) false refl
+    ∷ judged "Finishing: bytes 9 to 16 one too high" 5
+    (calledLast (kept 0x4A30303030303030 0x3034313030362E6B 0x7067 18)
+    (box (scanner Finishing Timeout) (job 41 41 77 13 0) (side 6 8 90) (settings 1 1) (feed Loaded Jammed 1 0) (ring 3 4))) false refl
+    ∷ judged "Finishing: bytes 17 and 18 one too high" 5
+    (calledLast (kept 0x4A30303030303030 0x3034313030362E6A 0x7068 18)
+    (box (scanner Finishing Timeout) (job 41 41 77 13 0) (side 6 8 90) (settings 1 1) (feed Loaded Jammed 1 0) (ring 3 4))) false refl
+    ∷ judged "Finishing: the length one too high" 5
+    (calledLast (kept 0x4A30303030303030 0x3034313030362E6A 0x7067 19)
+    (box (scanner Finishing Timeout) (job 41 41 77 13 0) (side 6 8 90) (settings 1 1) (feed Loaded Jammed 1 0) (ring 3 4))) false refl
+    ∷ judged "Erred: bytes 1 to 8 one too low" 5
+    (calledLast (kept 0x4A3030303030302F 0x3034313030362E6A 0x7067 18)
+    (box (scanner Erred Timeout) (job 41 41 77 13 0) (side 6 8 90) (settings 1 1) (feed Stuck Jammed 0 1) (ring 3 0))) false refl
+    ∷ judged "Erred: bytes 9 to 16 one too low" 5
+    (calledLast (kept 0x4A30303030303030 0x3034313030362E69 0x7067 18)
+    (box (scanner Erred Timeout) (job 41 41 77 13 0) (side 6 8 90) (settings 1 1) (feed Stuck Jammed 0 1) (ring 3 0))) false refl
+    ∷ judged "Erred: bytes 17 and 18 one too low" 5
+    (calledLast (kept 0x4A30303030303030 0x3034313030362E6A 0x7066 18)
+    (box (scanner Erred Timeout) (job 41 41 77 13 0) (side 6 8 90) (settings 1 1) (feed Stuck Jammed 0 1) (ring 3 0))) false refl
+    ∷ judged "Erred: the length one too low" 5
+    (calledLast (kept 0x4A30303030303030 0x3034313030362E6A 0x7067 17)
+    (box (scanner Erred Timeout) (job 41 41 77 13 0) (side 6 8 90) (settings 1 1) (feed Stuck Jammed 0 1) (ring 3 0))) false refl
+    ∷ judged "Idle: the last job's name" 5
+    (calledLast K41-006 (box (scanner Idle Timeout) (job 0 41 77 0 0) (side 1 0 90) (settings 1 1) (feed Loaded Jammed 1 0) (ring 3 0))) true refl
+    ∷ judged "Idle: another job's name" 5
+    (calledLast K1234567890-987 (box (scanner Idle Timeout) (job 0 41 77 0 0) (side 1 0 90) (settings 1 0) (feed Loaded Jammed 1 0) (ring 3 0))) true refl
+    ∷ judged "Idle: none" 5
+    (calledLast noName (box (scanner Idle Timeout) (job 0 41 77 0 0) (side 1 0 90) (settings 1 1) (feed Loaded Jammed 1 0) (ring 3 0))) true refl
+    ∷ judged "Idle: what is no name" 5
+    (calledLast (kept 73 76 79 82) (box (scanner Idle Timeout) (job 0 41 77 0 0) (side 1 0 90) (settings 1 0) (feed Loaded Jammed 1 0) (ring 3 0))) true refl
+    ∷ judged "Idle: the greatest numbers" 5
+    (calledLast (kept 0xFFFFFFFFFFFFFFFF 0xFFFFFFFFFFFFFFFF 0xFFFF 0xFF)
+    (box (scanner Idle Timeout) (job 0 41 77 0 0) (side 1 0 90) (settings 1 1) (feed Loaded Jammed 1 0) (ring 3 0))) true refl
+    ∷ []
+
 pub soundness : List (Case Bool)
-soundness = idleJudged ++ heldJudged ++ ringJudged ++ feederJudged ++ marksJudged
+soundness = idleJudged ++ heldJudged ++ ringJudged ++ feederJudged ++ marksJudged ++ namesJudged
 
 -- each test stands in its point: where as many fail as can
 pub sentences : List (Case (List Bool))
+unfolding final
 sentences =
     that "Idle exactly when job is 0; then .." (idlePoints Idle (job 41 41 77 13 1) (side 6 8 90)) (false ∷ false ∷ false ∷ false ∷ false ∷ []) refl
     ∷ that "SideNumber, SideCount, last number, granted too low, quiet" (heldPoints Pending (job 41 42 4 13 0) (side 1000 1001 90))
@@ -290,6 +418,15 @@ sentences =
     ∷ that "Finishing on the glass" (feederPoints Finishing Loaded (settings 0 1) (side 6 8 90)) (true ∷ true ∷ true ∷ false ∷ []) refl
     ∷ that "marks" (markPoints Idle (settings 2 3) 4 (feed Stuck Jammed 5 6)) (false ∷ false ∷ false ∷ false ∷ false ∷ true ∷ true ∷ []) refl
     ∷ that "path 1 and a stop" (markPoints Idle (settings 0 1) 1 (feed Loaded Jammed 0 1)) (true ∷ true ∷ true ∷ true ∷ true ∷ false ∷ false ∷ []) refl
+    ∷ that "another job's name"
+    (namePoints
+    (calledLast K42 (box (scanner Pending Timeout) (job 41 41 77 13 0) (side 6 8 90) (settings 1 0) (feed Loaded Jammed 1 0) (ring 3 0))))
+    (false ∷ []) refl
+    ∷ that "a point each"
+    (points
+    (calledLast K42 (box (scanner Pending Timeout) (job 0 41 77 13 1) (side 1000 8 90) (settings 1 0) (feed Busy Jammed 1 0) (ring 3 1)))
+    5)
+    (false ∷ false ∷ false ∷ false ∷ false ∷ false ∷ []) refl
     ∷ []
 
 -- ---- the words: of the states in the paper's order
@@ -343,7 +480,70 @@ counts =
     (pos 0 ∷ pos 999 ∷ pos 2147483647 ∷ negsuc 2147483647 ∷ negsuc 1 ∷ negsuc 0 ∷ []) refl
     ∷ []
 
+-- ---- a name as it is kept
+pub paddings : List (Case (List ℕ))
+paddings =
+    that "eighteen bytes, unused ones 0: none used" (eighteen [])
+    (0 ∷ 0 ∷ 0 ∷ 0 ∷ 0 ∷ 0 ∷ 0 ∷ 0 ∷ 0 ∷ 0 ∷ 0 ∷ 0 ∷ 0 ∷ 0 ∷ 0 ∷ 0 ∷ 0 ∷ 0 ∷ []) refl
+    ∷ that "fifteen used" (eighteen J41)
+    (74 ∷ 48 ∷ 48 ∷ 48 ∷ 48 ∷ 48 ∷ 48 ∷ 48 ∷ 48 ∷ 52 ∷ 49 ∷ 46 ∷ 106 ∷ 112 ∷ 103 ∷ 0 ∷ 0 ∷ 0 ∷ []) refl
+    ∷ that "all used" (eighteen J41-006)
+    (74 ∷ 48 ∷ 48 ∷ 48 ∷ 48 ∷ 48 ∷ 48 ∷ 48 ∷ 48 ∷ 52 ∷ 49 ∷ 48 ∷ 48 ∷ 54 ∷ 46 ∷ 106 ∷ 112 ∷ 103 ∷ []) refl
+    ∷ []
+
+pub packings : List (Case ℕ)
+packings =
+    that "no bytes" (packed []) 0 refl
+    ∷ that "one byte" (packed (7 ∷ [])) 7 refl
+    ∷ that "the first byte highest" (packed (1 ∷ 2 ∷ [])) 258 refl
+    ∷ that "a 0 in front" (packed (0 ∷ 5 ∷ [])) 5 refl
+    ∷ that "a 0 behind" (packed (5 ∷ 0 ∷ [])) 1280 refl
+    ∷ that "eight bytes" (packed (1 ∷ 2 ∷ 3 ∷ 4 ∷ 5 ∷ 6 ∷ 7 ∷ 8 ∷ [])) 0x0102030405060708 refl
+    ∷ that "eight bytes of 255" (packed (255 ∷ 255 ∷ 255 ∷ 255 ∷ 255 ∷ 255 ∷ 255 ∷ 255 ∷ [])) 18446744073709551615 refl
+    ∷ []
+
+pub spellings : List (Case Named)
+unfolding final
+spellings =
+    that "no name" (spelt []) (kept 0 0 0 0) refl
+    ∷ that "a job's" (spelt J41) (kept 0x4A30303030303030 0x3034312E6A706700 0 15) refl
+    ∷ that "a side's" (spelt J41-006) (kept 0x4A30303030303030 0x3034313030362E6A 0x7067 18) refl
+    ∷ that "the greatest" (spelt J4294967295-999) (kept 0x4A34323934393637 0x3239353939392E6A 0x7067 18) refl
+    ∷ that "one byte" (spelt (1 ∷ [])) (kept 0x0100000000000000 0 0 1) refl
+    ∷ that "nine bytes" (spelt (1 ∷ 2 ∷ 3 ∷ 4 ∷ 5 ∷ 6 ∷ 7 ∷ 8 ∷ 9 ∷ [])) (kept 0x0102030405060708 0x0900000000000000 0 9) refl
+    ∷ that "seventeen bytes" (spelt (1 ∷ 2 ∷ 3 ∷ 4 ∷ 5 ∷ 6 ∷ 7 ∷ 8 ∷ 9 ∷ 10 ∷ 11 ∷ 12 ∷ 13 ∷ 14 ∷ 15 ∷ 16 ∷ 17 ∷ []))
+    (kept 0x0102030405060708 0x090A0B0C0D0E0F10 0x1100 17) refl
+    ∷ that "eighteen bytes" (spelt (1 ∷ 2 ∷ 3 ∷ 4 ∷ 5 ∷ 6 ∷ 7 ∷ 8 ∷ 9 ∷ 10 ∷ 11 ∷ 12 ∷ 13 ∷ 14 ∷ 15 ∷ 16 ∷ 17 ∷ 18 ∷ []))
+    (kept 0x0102030405060708 0x090A0B0C0D0E0F10 0x1112 18) refl
+    ∷ that "the present name" (present (box (scanner Pending Timeout) (job 1 2 3 4 5) (side 2 6 7) (settings 8 1) (feed Loaded Jammed 9 10) (ring 11 12)))
+    K1-002 refl
+    ∷ []
+
+-- the names of the cases, as bytes and as they are kept
+pub spelled : List (Case (List Named))
+unfolding final
+spelled =
+    that "of jobs" (map spelt (J2 ∷ J31 ∷ J34 ∷ J41 ∷ J42 ∷ J1234567890 ∷ [])) (K2 ∷ K31 ∷ K34 ∷ K41 ∷ K42 ∷ K1234567890 ∷ []) refl
+    ∷ that "of sides"
+    (map spelt
+    (J1-001 ∷ J1-002 ∷ J31-046 ∷ J41-000 ∷ J41-006 ∷ J41-007 ∷ J41-999 ∷ J42-001 ∷ J43-001 ∷ J1234567890-987 ∷ J4294967295-999 ∷ []))
+    (K1-001 ∷ K1-002 ∷ K31-046 ∷ K41-000 ∷ K41-006 ∷ K41-007 ∷ K41-999 ∷ K42-001 ∷ K43-001 ∷ K1234567890-987 ∷ K4294967295-999 ∷ []) refl
+    ∷ []
+
+pub likenesses : List (Case Bool)
+likenesses =
+    that "the same name" (alike (kept 73 76 79 82) (kept 73 76 79 82)) true refl
+    ∷ that "other bytes 1 to 8" (alike (kept 73 76 79 82) (kept 74 76 79 82)) false refl
+    ∷ that "other bytes 9 to 16" (alike (kept 73 76 79 82) (kept 73 77 79 82)) false refl
+    ∷ that "other bytes 17 and 18" (alike (kept 73 76 79 82) (kept 73 76 80 82)) false refl
+    ∷ that "another length" (alike (kept 73 76 79 82) (kept 73 76 79 83)) false refl
+    ∷ that "no name, and none" (alike (kept 0 0 0 0) (kept 0 0 0 0)) true refl
+    ∷ that "numbers that changed places" (alike (kept 73 76 79 82) (kept 76 73 82 79)) false refl
+    ∷ that "none alike" (alike (kept 73 76 79 82) (kept 83 86 89 92)) false refl
+    ∷ []
+
 pub freshness : List (Case Record)
 freshness =
-    that "fresh" fresh (box (scanner Idle None) (job 0 0 60 0 0) (side 1 0 0) (settings 1 1) (feed Unloaded None 0 0) (ring 0 0)) refl
+    that "fresh" fresh
+    (calledLast noName (box (scanner Idle None) (job 0 0 60 0 0) (side 1 0 0) (settings 1 1) (feed Unloaded None 0 0) (ring 0 0))) refl
     ∷ []

@@ -1,4 +1,5 @@
 -- What a reader must believe, in the paper's order; then the cases that hold it to the paper.
+pub mod Name
 pub mod Record
 pub mod Ring
 pub mod Feeder

@@ -7,10 +7,11 @@ use lib.ListN.{length, drop}
 use Rattle.rules.specs.declared.Record.{Record}
 use Rattle.rules.specs.declared.Input.{Input}
 use Rattle.rules.specs.Record.{endless, counted, idle, pending, scanning, erred, unloaded, on, marked, granting, fresh, sound}
+use Rattle.rules.specs.Name.{name, same}
 use Rattle.rules.specs.Ring.{wrap, put, queue}
 use Rattle.rules.specs.Feeder.{stands, trayAt, simplex, loads, fedAt, denies, ejecting, jamStops, sheetStops}
-use Rattle.rules.specs.Moves.{device, headed, withFeeder, fedBy, ended, settled, given, started, stopped, name, scanLength, least, last}
-use Rattle.rules.specs.Moves.{fetched, filled, sideEnded, pathed, ticked}
+use Rattle.rules.specs.Moves.{device, headed, withFeeder, fedBy, announced, ended, settled, given, started, stopped, scanLength, least}
+use Rattle.rules.specs.Moves.{last, fetched, filled, sideEnded, pathed, ticked}
 use Rattle.rules.specs.Calls.{ScanCall, StartScan, Start, Stop, Abort, GetDestination, Fetch, GetState, GetSideInformation, FeederCall, Load, Eject}
 use Rattle.rules.specs.Calls.{Reset, SetFeederMode, GetFeederState, GetFeederMode, Report, Bytes, SideEnded, Tray, Path, Tick, Call, scan, feeder}
 use Rattle.rules.specs.Calls.{report, n604, n601, n712, n404, n501, n711, n713, n603, State, Values, nothing, time, destination, picture, state, sides}
@@ -33,13 +34,6 @@ notHeld j r = idle (r .scanner .state) || not (eqb j (r .job .held))
 -- for feeder calls the job number must be the one held, 0 when Idle
 abbrev pub notOurs : ℕ → Record → Bool
 notOurs j r = not (eqb j (r .job .held))
-
--- the same bytes
-abbrev pub same : List ℕ → List ℕ → Bool
-same [] [] = true
-same [] (y ∷ ys) = false
-same (x ∷ xs) [] = false
-same (x ∷ xs) (y ∷ ys) = eqb x y && same xs ys
 
 -- scan calls: when a side is to begin from the feeder
 abbrev pub beginning : ℕ → ℕ → Record → List Guard
@@ -106,7 +100,7 @@ unfoldable pub scanEffect : ScanCall → State → Outcome
 scanEffect (StartScan from c append asked) s =
     let r = s .box in
     accepted (time (granting asked .seconds))
-    (started (settled from (r .settings .feeder)) c (given (settled append (r .settings .append)) asked r))
+    (started (settled from (r .settings .feeder)) c (announced (given (settled append (r .settings .append)) asked r)))
     s
 scanEffect (Start j from c) s = accepted nothing (started (settled from (s .box .settings .feeder)) c (s .box)) s
 scanEffect (Stop j) s = accepted nothing (stopped (s .box)) s

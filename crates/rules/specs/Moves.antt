@@ -1,7 +1,6 @@
 -- The moves of the record, each under the paper's name. A number refused inside a drain step never becomes the call's own.
-use Prim.Native.Nat.{ℕ, zero, suc, _+_, _-_, _/_, _%_, _^_, min}
+use Prim.Native.Nat.{ℕ, _+_, _-_, min}
 use mathlib.Core.Bool.{Bool, _&&_, _||_, cond}
-use mathlib.Core.List.{List, [], _∷_, _++_}
 use lib.Dec.{eqb, leb, ltb}
 use Rattle.rules.specs.declared.Scan.{Scan}
 use Rattle.rules.specs.declared.Failure.{Failure}
@@ -12,29 +11,36 @@ use Rattle.rules.specs.declared.Settings.{Settings}
 use Rattle.rules.specs.declared.Feeder.{Feeder}
 use Rattle.rules.specs.declared.Input.{Input}
 use Rattle.rules.specs.declared.Ring.{Ring}
+use Rattle.rules.specs.declared.Names.{Names}
 use Rattle.rules.specs.declared.Record.{Record}
+use Rattle.rules.specs.Name.{present, nameStays}
 use Rattle.rules.specs.Record.{greatest, lastSide, endless, idle, pending, scanning, finishing, erred, on, granting, limit, fresh}
 use Rattle.rules.specs.Ring.{wrap}
 use Rattle.rules.specs.Feeder.{pathAt, driven, jamStops, sheetStops, taken, freed, late}
 
 -- ---- one part of the record changed
 abbrev pub withScanner : Scanner → Record → Record
-withScanner x r = record { scanner = x; job = r .job; side = r .side; settings = r .settings; feeder = r .feeder; ring = r .ring }
+withScanner x r = record { scanner = x; job = r .job; side = r .side; settings = r .settings; feeder = r .feeder; ring = r .ring; names = r .names }
 
 abbrev pub withJob : Job → Record → Record
-withJob x r = record { scanner = r .scanner; job = x; side = r .side; settings = r .settings; feeder = r .feeder; ring = r .ring }
+withJob x r = record { scanner = r .scanner; job = x; side = r .side; settings = r .settings; feeder = r .feeder; ring = r .ring; names = r .names }
 
 abbrev pub withSide : Side → Record → Record
-withSide x r = record { scanner = r .scanner; job = r .job; side = x; settings = r .settings; feeder = r .feeder; ring = r .ring }
+withSide x r = record { scanner = r .scanner; job = r .job; side = x; settings = r .settings; feeder = r .feeder; ring = r .ring; names = r .names }
 
 abbrev pub withSettings : Settings → Record → Record
-withSettings x r = record { scanner = r .scanner; job = r .job; side = r .side; settings = x; feeder = r .feeder; ring = r .ring }
+withSettings x r = record { scanner = r .scanner; job = r .job; side = r .side; settings = x; feeder = r .feeder; ring = r .ring; names = r .names }
 
 abbrev pub withFeeder : Feeder → Record → Record
-withFeeder x r = record { scanner = r .scanner; job = r .job; side = r .side; settings = r .settings; feeder = x; ring = r .ring }
+withFeeder x r = record { scanner = r .scanner; job = r .job; side = r .side; settings = r .settings; feeder = x; ring = r .ring; names = r .names }
 
 abbrev pub withRing : Ring → Record → Record
-withRing x r = record { scanner = r .scanner; job = r .job; side = r .side; settings = r .settings; feeder = r .feeder; ring = x }
+withRing x r =
+    record { scanner = r .scanner; job = r .job; side = r .side; settings = r .settings; feeder = r .feeder; ring = x; names = r .names }
+
+abbrev pub withNames : Names → Record → Record
+withNames x r =
+    record { scanner = r .scanner; job = r .job; side = r .side; settings = r .settings; feeder = r .feeder; ring = r .ring; names = x }
 
 -- the scanner stands so, its FailureCode kept; quiet, the stop-asked mark and SideCount set
 abbrev pub standing : Scan → Record → Record
@@ -63,17 +69,22 @@ fedBy i r = withFeeder (driven i (r .feeder)) r
 abbrev pub heard : ℕ → Record → Record
 heard k r = quietAt (cond (leb 1 k) 0 (r .job .quiet)) r
 
--- ---- a side begins
--- DestinationID rises by one, 4,294,967,295 going to 0
+-- ---- DestinationID follows the name (02, #101)
+-- it rises by one, 4,294,967,295 going to 0
 abbrev pub risen : ℕ → ℕ
 risen d = cond (eqb d greatest) 0 (d + 1)
 
-abbrev pub announced : Record → Record
-announced r = withSide (record { number = r .side .number; count = r .side .count; destination = risen (r .side .destination) }) r
+-- exactly when the name differs from the last name that any job held; the last name is then the present one
+abbrev pub announcedBy : ℕ → Record → Record
+announcedBy id r =
+    withNames (record { last = present r }) (withSide (record { number = r .side .number; count = r .side .count; destination = id }) r)
 
--- otherwise the feeder becomes Busy. Then Scanning, and DestinationID rises
+abbrev pub announced : Record → Record
+announced r = announcedBy (cond (nameStays r) (r .side .destination) (risen (r .side .destination))) r
+
+-- ---- a side begins: otherwise the feeder becomes Busy. Then Scanning
 unfoldable pub begun : Record → Record
-begun r = announced (standing Scan.Scanning (withFeeder (cond (on (r .settings .feeder)) (taken (r .feeder)) (r .feeder)) r))
+begun r = standing Scan.Scanning (withFeeder (cond (on (r .settings .feeder)) (taken (r .feeder)) (r .feeder)) r)
 
 -- ---- end of job: ring emptied, Idle, job 0, the fresh SideNumber, SideCount and quiet, no stop asked; how it ended
 -- gives the scanner's FailureCode and the feeder
@@ -86,6 +97,7 @@ released why f r =
       settings = r .settings;
       feeder = f;
       ring = fresh .ring;
+      names = r .names;
     }
 
 -- the scanner's FailureCode none. Busy becomes Unloaded
@@ -132,15 +144,7 @@ started from c r = cond (eqb c 0) (readied from c r) (begun (readied from c r))
 unfoldable pub stopped : Record → Record
 stopped r = cond (pending (r .scanner .state) || erred (r .scanner .state)) (ended r) (stopAt 1 r)
 
--- ---- GetDestination: J, ten digits of job, three digits of SideNumber if Append is 1, then .jpg
-abbrev pub digits : ℕ → ℕ → List ℕ
-digits zero n = []
-digits (suc k) n = (48 + n / 10 ^ k % 10) ∷ digits k n
-
-unfoldable pub name : Record → List ℕ
-name r = 74 ∷ digits 10 (r .job .held) ++ cond (on (r .settings .append)) (digits 3 (r .side .number)) [] ++ 46 ∷ 106 ∷ 112 ∷ 103 ∷ []
-
--- ScanLength stays 0
+-- ---- GetSideInformation: ScanLength stays 0
 abbrev pub scanLength : Record → ℕ
 scanLength r = 0
 
@@ -164,16 +168,16 @@ faulted r = withScanner (record { state = Scan.Erred; failure = Failure.Jammed }
 abbrev pub waited : Record → Record
 waited r = standing Scan.Pending (countAt (cond (eqb (r .side .count) endless) 0 (r .side .count)) r)
 
--- Stop asked: end of job. SideCount 0: Pending. Else a side begins, except: 711 gives Erred, Jammed; 713
+-- SideCount 0: Pending. Else a side begins, except: 711 gives Erred, Jammed; 713
 abbrev pub drainedOn : Record → Record
 drainedOn r =
-    cond (on (r .job .stop)) (ended r)
-    (cond (eqb (r .side .count) 0) (standing Scan.Pending r)
+    cond (eqb (r .side .count) 0) (standing Scan.Pending r)
     (cond (jamStops (r .settings .feeder) (r .feeder)) (faulted r)
-    (cond (sheetStops (r .settings .feeder) (r .feeder)) (waited r) (begun r))))
+    (cond (sheetStops (r .settings .feeder) (r .feeder)) (waited r) (begun r)))
 
+-- Stop asked: end of job; DestinationID and the last name stay. Else the name that the side now has is announced
 unfoldable pub drained : Record → Record
-drained r = drainedOn (numbered r)
+drained r = cond (on (r .job .stop)) (ended (numbered r)) (drainedOn (announced (numbered r)))
 
 -- ---- Fetch
 -- the reply's head

@@ -1,5 +1,5 @@
 -- What the theorems say, in the words of the three demands. The theorems stand in proofs/Theorems.antt.
-use Prim.Native.Nat.{ℕ, suc, _+_, _≤_, _<_}
+use Prim.Native.Nat.{ℕ, suc, _+_, _%_, _≤_, _<_}
 use mathlib.Core.Path.{_≡_}
 use mathlib.Core.Logic.{_≢_}
 use mathlib.Core.Bool.{Bool, true, false, _&&_, _||_, cond}
@@ -13,13 +13,14 @@ use Rattle.rules.specs.declared.Failure.{Failure}
 use Rattle.rules.specs.declared.Record.{Record}
 use Rattle.rules.specs.Record.{greatest, mostSides, mostRing, pending, erred}
 use Rattle.rules.specs.Feeder.{stands}
-use Rattle.rules.specs.Moves.{withFeeder, name}
+use Rattle.rules.specs.Name.{name}
+use Rattle.rules.specs.Moves.{withFeeder}
 use Rattle.rules.specs.Calls.{StartScan, Start, Stop, Abort, GetDestination, Fetch, GetState, GetSideInformation, Eject, Reset, SetFeederMode}
 use Rattle.rules.specs.Calls.{GetFeederState, GetFeederMode, rowOf, Load, SideEnded, Tick, Call, scan, feeder, report, Reason, numberOf, State, nothing}
 use Rattle.rules.specs.Calls.{picture, Outcome, lent, Guard, refuse, leaving, to}
 use Rattle.rules.specs.Machine.{step}
 use Rattle.rules.specs.Watch.{scanOf, bytesIn, countIn, sign, ticks, seconds, Tagged, byteOf, bytesAccepted, waiting, stopAsked, World, after, holder}
-use Rattle.rules.specs.Watch.{dueSecond}
+use Rattle.rules.specs.Watch.{changes, dueSecond}
 
 -- every member of a list has a property
 abbrev pub All : {A : Type 0} → (A → Type 0) → List A → Type 0
@@ -149,6 +150,17 @@ pub data OfAnother (s : State) : Call → Type 0 where
       → OfAnother s (scan (Fetch (name x) most reply))
   asking : {from count append asked : ℕ} → OfAnother s (scan (StartScan from count append asked))
 
+-- ---- DestinationID follows the name (02, #101)
+-- what GetDestination tells the holder
+abbrev pub destinationOf : World → ℕ
+destinationOf w = w .now .box .side .destination
+
+-- it rises by one at a call, 4,294,967,295 going to 0, where the call changes the name, and else stays
+pub record FollowsName (w : World) (c : Call) : Type 0 where
+  pub rises : changes (w .past) (step (w .now) c) ≡ true → destinationOf (after w c) ≡ (destinationOf w + 1) % suc greatest
+  pub stays : changes (w .past) (step (w .now) c) ≡ false → destinationOf (after w c) ≡ destinationOf w
+
+-- ---- pictures
 -- a reply at exit with these bytes in it: as it was lent where there are none, or the head, the bytes, and then as it was lent
 pub data Replied (was : List ℕ) : List ℕ → List ℕ → Type 0 where
   asLent : Replied was [] was

@@ -14,6 +14,7 @@ use Rattle.rules.specs.declared.Settings.{Settings}
 use Rattle.rules.specs.declared.Feeder.{Feeder}
 use Rattle.rules.specs.declared.Ring.{Ring}
 use Rattle.rules.specs.declared.Record.{Record}
+use Rattle.rules.specs.Name.{nameStays}
 
 -- ---- the paper's numbers
 abbrev pub greatest : ℕ
@@ -145,6 +146,7 @@ fresh =
       settings = record { feeder = 1; append = 1 };
       feeder = record { state = Feed.Unloaded; failure = Failure.None; tray = 0; path = 0 };
       ring = record { start = 0; stored = 0 };
+      names = record { last = record { first = 0; second = 0; third = 0; len = 0 } };
     }
 
 -- ---- sound
@@ -217,7 +219,11 @@ markPoints s t stop f =
     ∷ implies (on stop) (scanning s || finishing s)
     ∷ []
 
--- the paper's five points
+-- While a job is held, the last name is that job's (02, #101)
+abbrev pub namePoints : Record → List Bool
+namePoints r = implies (not (idle (r .scanner .state))) (nameStays r) ∷ []
+
+-- the paper's five points, and the name's
 abbrev pub points : Record → ℕ → List Bool
 points r n =
     every (idlePoints (r .scanner .state) (r .job) (r .side))
@@ -225,6 +231,7 @@ points r n =
     ∷ every (ringPoints (r .scanner .state) (r .ring) n)
     ∷ every (feederPoints (r .scanner .state) (r .feeder .state) (r .settings) (r .side))
     ∷ every (markPoints (r .scanner .state) (r .settings) (r .job .stop) (r .feeder))
+    ∷ every (namePoints r)
     ∷ []
 
 unfoldable pub sound : Record → ℕ → Bool

@@ -9,14 +9,20 @@ use Rattle.rules.specs.declared.Scan.the-variants.{Idle, Pending, Scanni
 use Rattle.rules.specs.declared.Feed.{Feed}
 use Rattle.rules.specs.declared.Feed.the-variants.{Unloaded, Loaded, Busy, Erred as Stuck}
 use Rattle.rules.specs.declared.Failure.the-variants.{None, Jammed, Timeout}
+use Rattle.rules.specs.declared.Scanner.{Scanner}
+use Rattle.rules.specs.declared.Job.{Job}
+use Rattle.rules.specs.declared.Side.{Side}
+use Rattle.rules.specs.declared.Settings.{Settings}
 use Rattle.rules.specs.declared.Feeder.{Feeder}
+use Rattle.rules.specs.declared.Ring.{Ring}
 use Rattle.rules.specs.declared.Input.{Input}
 use Rattle.rules.specs.declared.Fed.{Fed}
 use Rattle.rules.specs.declared.Record.{Record}
 use Rattle.rules.specs.Feeder.{stands, fails, trayAt, pathAt, fed}
-use Rattle.rules.specs.Moves.{withScanner, withJob, withSide, withSettings, withFeeder, withRing, standing, quietAt, stopAt, countAt, emptied, heard}
-use Rattle.rules.specs.Moves.{announced, begun, released, ended, timedOut, given, readied, started, stopped, numbered, faulted, waited, moved, filled}
-use Rattle.rules.specs.Moves.{finished, caught, pathed, ticked, name}
+use Rattle.rules.specs.Moves.{withScanner, withJob, withSide, withSettings, withFeeder, withRing, withNames, standing, quietAt, stopAt, countAt, emptied}
+use Rattle.rules.specs.Moves.{heard, announced, begun, released, ended, timedOut, given, readied, started, stopped, numbered, faulted, waited, moved}
+use Rattle.rules.specs.Moves.{filled, finished, caught, pathed, ticked}
+use Rattle.rules.specs.Name.{name}
 use Rattle.rules.specs.Calls.{StartScan, Start, Stop, Abort, GetDestination, Fetch, GetState, GetSideInformation, Load, Eject, Reset, SetFeederMode}
 use Rattle.rules.specs.Calls.{GetFeederState, GetFeederMode, Bytes, SideEnded, Tray, Path, Tick, scan, feeder, report, nothing, time, destination}
 use Rattle.rules.specs.Calls.{picture, state, sides, feeding, mode, stored, Outcome, Reason, n604, n601, n712, n404, n501, n711, n713, n603, numberOf}
@@ -25,22 +31,23 @@ use Rattle.rules.specs.Machine.{run, start, allGuards, notHeld, notOurs}
 use Rattle.rules.specs.Cases.{Case, that, final, afterwards, case, keeps, tickings, at, boxed, resting, holding, drawing, drawingLast, copying, draining}
 use Rattle.rules.specs.Cases.{clearing, faulty, unsoundState, out, done, taking, sent, took, box, scanner, job, side, settings, feed, ring, minusOne}
 use Rattle.rules.specs.Cases.{minusTwo, five, nine, J41, J41-006, J41-007, J42, J42-001, J0-001, J1234567890, J1234567890-987, J4294967295-999}
-use Rattle.rules.specs.Cases.{J1-001, J1-002, J2, Turn, turn, turnCall, outcomeOf}
+use Rattle.rules.specs.Cases.{J1-001, J1-002, J2, J41-999, drawingNumbered, drainingNumbered, restingAfter, Turn, turn, turnCall, outcomeOf}
+use Rattle.rules.specs.Cases.{kept, noName, K1, K1-001, K1-002, K31, K31-046, K34, K41, K41-000, K41-006, K41-007, K42, K42-001, K43-001, calledLast}
 
 -- ---- both sides of each line: the cases marked *
 pub starred : List (Case Outcome)
 unfolding final
 starred =
     case "asked 4: granted 5" (resting (settings 1 0) (feed Loaded Jammed 1 0)) (scan (StartScan 0 0 1 4))
-    (taking (time 5) (box (scanner Pending None) (job 42 42 5 0 0) (side 1 0 90) (settings 0 1) (feed Loaded Jammed 1 0) (ring 3 0))) refl
+    (taking (time 5) (box (scanner Pending None) (job 42 42 5 0 0) (side 1 0 91) (settings 0 1) (feed Loaded Jammed 1 0) (ring 3 0))) refl
     ∷ case "asked 5: granted 5" (resting (settings 1 0) (feed Loaded Jammed 1 0)) (scan (StartScan 0 0 1 5))
-    (taking (time 5) (box (scanner Pending None) (job 42 42 5 0 0) (side 1 0 90) (settings 0 1) (feed Loaded Jammed 1 0) (ring 3 0))) refl
+    (taking (time 5) (box (scanner Pending None) (job 42 42 5 0 0) (side 1 0 91) (settings 0 1) (feed Loaded Jammed 1 0) (ring 3 0))) refl
     ∷ case "asked 600: granted 600" (resting (settings 1 0) (feed Loaded Jammed 1 0)) (scan (StartScan 0 0 1 600))
-    (taking (time 600) (box (scanner Pending None) (job 42 42 600 0 0) (side 1 0 90) (settings 0 1) (feed Loaded Jammed 1 0) (ring 3 0))) refl
+    (taking (time 600) (box (scanner Pending None) (job 42 42 600 0 0) (side 1 0 91) (settings 0 1) (feed Loaded Jammed 1 0) (ring 3 0))) refl
     ∷ case "asked 601: granted 600" (resting (settings 1 0) (feed Loaded Jammed 1 0)) (scan (StartScan 0 0 1 601))
-    (taking (time 600) (box (scanner Pending None) (job 42 42 600 0 0) (side 1 0 90) (settings 0 1) (feed Loaded Jammed 1 0) (ring 3 0))) refl
+    (taking (time 600) (box (scanner Pending None) (job 42 42 600 0 0) (side 1 0 91) (settings 0 1) (feed Loaded Jammed 1 0) (ring 3 0))) refl
     ∷ case "asked 0: granted 60" (resting (settings 1 0) (feed Loaded Jammed 1 0)) (scan (StartScan 0 0 1 0))
-    (taking (time 60) (box (scanner Pending None) (job 42 42 60 0 0) (side 1 0 90) (settings 0 1) (feed Loaded Jammed 1 0) (ring 3 0))) refl
+    (taking (time 60) (box (scanner Pending None) (job 42 42 60 0 0) (side 1 0 91) (settings 0 1) (feed Loaded Jammed 1 0) (ring 3 0))) refl
     ∷ case "SideCount 999 taken" (resting (settings 1 0) (feed Loaded Jammed 1 0)) (scan (StartScan 1 999 1 123))
     (taking (time 123) (box (scanner Scanning None) (job 42 42 123 0 0) (side 1 999 91) (settings 1 1) (feed Busy Jammed 1 0) (ring 3 0))) refl
     ∷ keeps "SideCount 1000 is 601" (resting (settings 1 0) (feed Loaded Jammed 1 0)) (scan (StartScan 1 1000 1 123)) 601 refl
@@ -48,17 +55,17 @@ starred =
     ∷ keeps "glass 2 is 601" (resting (settings 1 0) (feed Loaded Jammed 1 0)) (scan (StartScan 0 2 1 123)) 601 refl
     ∷ afterwards "granted 10, Pending: nine tickings hold it" (resting (settings 1 0) (feed Loaded Jammed 1 0))
     (scan (StartScan 0 0 1 10) ∷ tickings 8) (report Tick)
-    (done (box (scanner Pending None) (job 42 42 10 9 0) (side 1 0 90) (settings 0 1) (feed Loaded Jammed 1 0) (ring 3 0))) refl
+    (done (box (scanner Pending None) (job 42 42 10 9 0) (side 1 0 91) (settings 0 1) (feed Loaded Jammed 1 0) (ring 3 0))) refl
     ∷ afterwards "the tenth ends it" (resting (settings 1 0) (feed Loaded Jammed 1 0)) (scan (StartScan 0 0 1 10) ∷ tickings 9) (report Tick)
-    (done (box (scanner Idle Timeout) (job 0 42 10 0 0) (side 1 0 90) (settings 0 1) (feed Loaded Jammed 1 0) (ring 0 0))) refl
+    (done (calledLast K42-001 (box (scanner Idle Timeout) (job 0 42 10 0 0) (side 1 0 91) (settings 0 1) (feed Loaded Jammed 1 0) (ring 0 0)))) refl
     ∷ afterwards "an empty fetch afterwards the ninth" (resting (settings 1 0) (feed Loaded Jammed 1 0)) (scan (StartScan 0 0 1 10) ∷ tickings 9)
     (scan (Fetch J42-001 255 nine))
     (sent 0 false [] (65 ∷ 66 ∷ 67 ∷ 68 ∷ 69 ∷ [])
-    (box (scanner Pending None) (job 42 42 10 9 0) (side 1 0 90) (settings 0 1) (feed Loaded Jammed 1 0) (ring 3 0))) refl
+    (box (scanner Pending None) (job 42 42 10 9 0) (side 1 0 91) (settings 0 1) (feed Loaded Jammed 1 0) (ring 3 0))) refl
     ∷ afterwards "puts off nothing" (resting (settings 1 0) (feed Loaded Jammed 1 0))
     (scan (StartScan 0 0 1 10) ∷ tickings 9 ++ scan (Fetch J42-001 255 nine) ∷ [])
     (report Tick)
-    (done (box (scanner Idle Timeout) (job 0 42 10 0 0) (side 1 0 90) (settings 0 1) (feed Loaded Jammed 1 0) (ring 0 0))) refl
+    (done (calledLast K42-001 (box (scanner Idle Timeout) (job 0 42 10 0 0) (side 1 0 91) (settings 0 1) (feed Loaded Jammed 1 0) (ring 0 0)))) refl
     ∷ case "Load from Loaded, tray empty: 713, Unloaded" (resting (settings 1 0) (feed Loaded Jammed 0 0)) (feeder (Load 0))
     (out 713 nothing (box (scanner Idle Timeout) (job 0 41 77 0 0) (side 1 0 90) (settings 1 0) (feed Unloaded Jammed 0 0) (ring 3 0)) five []) refl
     ∷ case "Reset, path 1: accepted, Erred" (resting (settings 1 0) (feed Stuck Jammed 1 1)) (feeder (Reset 0))
@@ -66,10 +73,10 @@ starred =
     ∷ keeps "job 0 to Load while held: 712" (holding (settings 1 0) (feed Loaded Jammed 1 0)) (feeder (Load 0)) 712 refl
     ∷ case "SideNumber 999 goes to 0"
     (at (box (scanner Scanning Timeout) (job 41 41 77 13 0) (side 999 1 90) (settings 0 1) (feed Loaded Jammed 1 0) (ring 3 0))) (report SideEnded)
-    (done (box (scanner Pending Timeout) (job 41 41 77 0 0) (side 0 0 90) (settings 0 1) (feed Loaded Jammed 1 0) (ring 3 0))) refl
+    (done (box (scanner Pending Timeout) (job 41 41 77 0 0) (side 0 0 91) (settings 0 1) (feed Loaded Jammed 1 0) (ring 3 0))) refl
     ∷ case "job 4,294,967,295 is followed by 1"
     (at (box (scanner Idle Timeout) (job 0 4294967295 77 0 0) (side 1 0 90) (settings 1 0) (feed Loaded Jammed 1 0) (ring 3 0))) (scan (StartScan 0 0 1 123))
-    (taking (time 123) (box (scanner Pending None) (job 1 1 123 0 0) (side 1 0 90) (settings 0 1) (feed Loaded Jammed 1 0) (ring 3 0))) refl
+    (taking (time 123) (box (scanner Pending None) (job 1 1 123 0 0) (side 1 0 91) (settings 0 1) (feed Loaded Jammed 1 0) (ring 3 0))) refl
     ∷ []
 
 -- ---- StartScan: settings stored, job is the last number plus 1, FailureCode none; the feeder's FailureCode, the sensors and the ring stay
@@ -96,22 +103,22 @@ startScans =
     (taking (time 123) (box (scanner Scanning None) (job 42 42 123 0 0) (side 1 minusOne 91) (settings 1 0) (feed Busy Jammed 1 0) (ring 3 0))) refl
     ∷ case "−1 on the glass is stored as 1" (resting (settings 1 1) (feed Loaded Jammed 1 0)) (scan (StartScan 0 minusOne 0 123))
     (taking (time 123) (box (scanner Scanning None) (job 42 42 123 0 0) (side 1 1 91) (settings 0 0) (feed Loaded Jammed 1 0) (ring 3 0))) refl
-    ∷ case "SideCount 0 from the feeder: Pending, DestinationID stays" (resting (settings 0 1) (feed Loaded Jammed 1 0)) (scan (StartScan 1 0 0 123))
-    (taking (time 123) (box (scanner Pending None) (job 42 42 123 0 0) (side 1 0 90) (settings 1 0) (feed Loaded Jammed 1 0) (ring 3 0))) refl
+    ∷ case "SideCount 0 from the feeder: Pending, DestinationID rises" (resting (settings 0 1) (feed Loaded Jammed 1 0)) (scan (StartScan 1 0 0 123))
+    (taking (time 123) (box (scanner Pending None) (job 42 42 123 0 0) (side 1 0 91) (settings 1 0) (feed Loaded Jammed 1 0) (ring 3 0))) refl
     ∷ case "SideCount 0 from an Erred feeder: Pending" (resting (settings 0 0) (feed Stuck Jammed 0 1)) (scan (StartScan 1 0 1 123))
-    (taking (time 123) (box (scanner Pending None) (job 42 42 123 0 0) (side 1 0 90) (settings 1 1) (feed Stuck Jammed 0 1) (ring 3 0))) refl
+    (taking (time 123) (box (scanner Pending None) (job 42 42 123 0 0) (side 1 0 91) (settings 1 1) (feed Stuck Jammed 0 1) (ring 3 0))) refl
     ∷ case "SideCount 0 from the feeder, no sheet: Pending" (resting (settings 0 0) (feed Unloaded Jammed 0 0)) (scan (StartScan 1 0 1 123))
-    (taking (time 123) (box (scanner Pending None) (job 42 42 123 0 0) (side 1 0 90) (settings 1 1) (feed Unloaded Jammed 0 0) (ring 3 0))) refl
+    (taking (time 123) (box (scanner Pending None) (job 42 42 123 0 0) (side 1 0 91) (settings 1 1) (feed Unloaded Jammed 0 0) (ring 3 0))) refl
     ∷ case "SideCount 0 on the glass: Pending" (resting (settings 1 1) (feed Stuck Jammed 1 0)) (scan (StartScan 0 0 0 123))
-    (taking (time 123) (box (scanner Pending None) (job 42 42 123 0 0) (side 1 0 90) (settings 0 0) (feed Stuck Jammed 1 0) (ring 3 0))) refl
+    (taking (time 123) (box (scanner Pending None) (job 42 42 123 0 0) (side 1 0 91) (settings 0 0) (feed Stuck Jammed 1 0) (ring 3 0))) refl
     ∷ case "asked 1: granted 5" (resting (settings 1 0) (feed Loaded Jammed 1 0)) (scan (StartScan 0 0 1 1))
-    (taking (time 5) (box (scanner Pending None) (job 42 42 5 0 0) (side 1 0 90) (settings 0 1) (feed Loaded Jammed 1 0) (ring 3 0))) refl
+    (taking (time 5) (box (scanner Pending None) (job 42 42 5 0 0) (side 1 0 91) (settings 0 1) (feed Loaded Jammed 1 0) (ring 3 0))) refl
     ∷ case "asked 6: granted 6" (resting (settings 1 0) (feed Loaded Jammed 1 0)) (scan (StartScan 0 0 1 6))
-    (taking (time 6) (box (scanner Pending None) (job 42 42 6 0 0) (side 1 0 90) (settings 0 1) (feed Loaded Jammed 1 0) (ring 3 0))) refl
+    (taking (time 6) (box (scanner Pending None) (job 42 42 6 0 0) (side 1 0 91) (settings 0 1) (feed Loaded Jammed 1 0) (ring 3 0))) refl
     ∷ case "asked 599: granted 599" (resting (settings 1 0) (feed Loaded Jammed 1 0)) (scan (StartScan 0 0 1 599))
-    (taking (time 599) (box (scanner Pending None) (job 42 42 599 0 0) (side 1 0 90) (settings 0 1) (feed Loaded Jammed 1 0) (ring 3 0))) refl
+    (taking (time 599) (box (scanner Pending None) (job 42 42 599 0 0) (side 1 0 91) (settings 0 1) (feed Loaded Jammed 1 0) (ring 3 0))) refl
     ∷ case "asked 65,535: granted 600" (resting (settings 1 0) (feed Loaded Jammed 1 0)) (scan (StartScan 0 0 1 65535))
-    (taking (time 600) (box (scanner Pending None) (job 42 42 600 0 0) (side 1 0 90) (settings 0 1) (feed Loaded Jammed 1 0) (ring 3 0))) refl
+    (taking (time 600) (box (scanner Pending None) (job 42 42 600 0 0) (side 1 0 91) (settings 0 1) (feed Loaded Jammed 1 0) (ring 3 0))) refl
     ∷ case "DestinationID 4,294,967,295 goes to 0"
     (at (box (scanner Idle Timeout) (job 0 41 77 0 0) (side 1 0 4294967295) (settings 1 0) (feed Loaded Jammed 1 0) (ring 3 0))) (scan (StartScan 1 7 1 123))
     (taking (time 123) (box (scanner Scanning None) (job 42 42 123 0 0) (side 1 7 0) (settings 1 1) (feed Busy Jammed 1 0) (ring 3 0))) refl
@@ -120,10 +127,10 @@ startScans =
     (taking (time 123) (box (scanner Scanning None) (job 42 42 123 0 0) (side 1 7 4294967295) (settings 1 1) (feed Busy Jammed 1 0) (ring 3 0))) refl
     ∷ case "job 4,294,967,294 is followed by 4,294,967,295"
     (at (box (scanner Idle Timeout) (job 0 4294967294 77 0 0) (side 1 0 90) (settings 1 0) (feed Loaded Jammed 1 0) (ring 3 0))) (scan (StartScan 0 0 1 123))
-    (taking (time 123) (box (scanner Pending None) (job 4294967295 4294967295 123 0 0) (side 1 0 90) (settings 0 1) (feed Loaded Jammed 1 0) (ring 3 0))) refl
+    (taking (time 123) (box (scanner Pending None) (job 4294967295 4294967295 123 0 0) (side 1 0 91) (settings 0 1) (feed Loaded Jammed 1 0) (ring 3 0))) refl
     ∷ case "the first job is 1" (at (box (scanner Idle Timeout) (job 0 0 77 0 0) (side 1 0 90) (settings 1 0) (feed Loaded Jammed 1 0) (ring 3 0)))
     (scan (StartScan 0 0 1 123))
-    (taking (time 123) (box (scanner Pending None) (job 1 1 123 0 0) (side 1 0 90) (settings 0 1) (feed Loaded Jammed 1 0) (ring 3 0))) refl
+    (taking (time 123) (box (scanner Pending None) (job 1 1 123 0 0) (side 1 0 91) (settings 0 1) (feed Loaded Jammed 1 0) (ring 3 0))) refl
     ∷ []
 
 -- StartScan 601, 501, 711, 713
@@ -149,26 +156,27 @@ startScansRefused =
     ∷ keeps "StartScan 713, device-setting is the feeder" (resting (settings 1 0) (feed Unloaded Jammed 0 0)) (scan (StartScan 2 1 1 123)) 713 refl
     ∷ []
 
--- ---- Start: UseFeeder and SideCount stored, FailureCode none, quiet 0; job, granted, SideNumber, Append and the ring stay
+-- ---- Start: UseFeeder and SideCount stored, FailureCode none, quiet 0; job, granted, SideNumber, Append and the ring stay, so the name and
+-- DestinationID do
 pub starts : List (Case Outcome)
 unfolding final
 starts =
     case "Start from the feeder in Pending" (holding (settings 0 1) (feed Loaded Jammed 1 0)) (scan (Start 41 1 7))
-    (done (box (scanner Scanning None) (job 41 41 77 0 0) (side 6 7 91) (settings 1 1) (feed Busy Jammed 1 0) (ring 3 0))) refl
+    (done (box (scanner Scanning None) (job 41 41 77 0 0) (side 6 7 90) (settings 1 1) (feed Busy Jammed 1 0) (ring 3 0))) refl
     ∷ case "Start from the feeder in Erred" (faulty (settings 0 1) (feed Unloaded Jammed 1 0)) (scan (Start 41 1 999))
-    (done (box (scanner Scanning None) (job 41 41 77 0 0) (side 6 999 91) (settings 1 1) (feed Busy Jammed 1 0) (ring 3 0))) refl
+    (done (box (scanner Scanning None) (job 41 41 77 0 0) (side 6 999 90) (settings 1 1) (feed Busy Jammed 1 0) (ring 3 0))) refl
     ∷ case "Start on the glass in Erred, the feeder Erred: FailureCode none" (faulty (settings 1 0) (feed Stuck Jammed 0 1)) (scan (Start 41 0 1))
-    (done (box (scanner Scanning None) (job 41 41 77 0 0) (side 6 1 91) (settings 0 0) (feed Stuck Jammed 0 1) (ring 3 0))) refl
+    (done (box (scanner Scanning None) (job 41 41 77 0 0) (side 6 1 90) (settings 0 0) (feed Stuck Jammed 0 1) (ring 3 0))) refl
     ∷ case "Start on the glass in Pending" (holding (settings 1 0) (feed Loaded Jammed 1 0)) (scan (Start 41 0 1))
-    (done (box (scanner Scanning None) (job 41 41 77 0 0) (side 6 1 91) (settings 0 0) (feed Loaded Jammed 1 0) (ring 3 0))) refl
+    (done (box (scanner Scanning None) (job 41 41 77 0 0) (side 6 1 90) (settings 0 0) (feed Loaded Jammed 1 0) (ring 3 0))) refl
     ∷ case "Start, device-setting keeps UseFeeder 1" (holding (settings 1 0) (feed Unloaded Jammed 1 0)) (scan (Start 41 2 7))
-    (done (box (scanner Scanning None) (job 41 41 77 0 0) (side 6 7 91) (settings 1 0) (feed Busy Jammed 1 0) (ring 3 0))) refl
+    (done (box (scanner Scanning None) (job 41 41 77 0 0) (side 6 7 90) (settings 1 0) (feed Busy Jammed 1 0) (ring 3 0))) refl
     ∷ case "Start, device-setting keeps UseFeeder 0" (holding (settings 0 1) (feed Stuck Jammed 0 1)) (scan (Start 41 2 1))
-    (done (box (scanner Scanning None) (job 41 41 77 0 0) (side 6 1 91) (settings 0 1) (feed Stuck Jammed 0 1) (ring 3 0))) refl
+    (done (box (scanner Scanning None) (job 41 41 77 0 0) (side 6 1 90) (settings 0 1) (feed Stuck Jammed 0 1) (ring 3 0))) refl
     ∷ case "Start with −1 from the feeder" (holding (settings 0 0) (feed Loaded Jammed 0 0)) (scan (Start 41 1 minusOne))
-    (done (box (scanner Scanning None) (job 41 41 77 0 0) (side 6 minusOne 91) (settings 1 0) (feed Busy Jammed 0 0) (ring 3 0))) refl
+    (done (box (scanner Scanning None) (job 41 41 77 0 0) (side 6 minusOne 90) (settings 1 0) (feed Busy Jammed 0 0) (ring 3 0))) refl
     ∷ case "Start with −1 on the glass is stored as 1" (holding (settings 1 1) (feed Unloaded Jammed 0 0)) (scan (Start 41 0 minusOne))
-    (done (box (scanner Scanning None) (job 41 41 77 0 0) (side 6 1 91) (settings 0 1) (feed Unloaded Jammed 0 0) (ring 3 0))) refl
+    (done (box (scanner Scanning None) (job 41 41 77 0 0) (side 6 1 90) (settings 0 1) (feed Unloaded Jammed 0 0) (ring 3 0))) refl
     ∷ case "Start with 0 gives Pending, from an Erred feeder too" (faulty (settings 0 1) (feed Stuck Jammed 0 1)) (scan (Start 41 1 0))
     (done (box (scanner Pending None) (job 41 41 77 0 0) (side 6 0 90) (settings 1 1) (feed Stuck Jammed 0 1) (ring 3 0))) refl
     ∷ case "Start: FailureCode none" (holding (settings 1 1) (feed Stuck Jammed 1 0)) (scan (Start 41 0 0))
@@ -224,7 +232,7 @@ stops =
     ∷ keeps "Stop 712 in Idle: the last number given" (resting (settings 1 0) (feed Loaded Jammed 1 0)) (scan (Stop 41)) 712 refl
     ∷ []
 
--- Abort ends the job: Busy becomes Unloaded, any other feeder stays; settings, granted, the last number and DestinationID stay
+-- Abort ends the job: Busy becomes Unloaded, any other feeder stays; settings, granted, the last number, the last name and DestinationID stay
 pub aborts : List (Case Outcome)
 unfolding final
 aborts =
@@ -377,25 +385,25 @@ fetchesRefused =
     ∷ keeps "Fetch 603, most 0 and no reply" (holding (settings 1 0) (feed Loaded Jammed 1 0)) (scan (Fetch J41 0 [])) 603 refl
     ∷ []
 
--- ---- the drain step after the last byte: SideNumber plus 1
+-- ---- the drain step after the last byte: SideNumber plus 1; without Append the name stays, and DestinationID with it
 pub drains : List (Case Outcome)
 unfolding final
 drains =
     case "last, SideCount 0: Pending" (draining 0 0 (feed Loaded Jammed 1 0) (ring 3 4)) (scan (Fetch J41 255 nine))
     (sent 4 true (24 ∷ 25 ∷ 21 ∷ 22 ∷ []) (69 ∷ [])
     (box (scanner Pending Timeout) (job 41 41 77 0 0) (side 7 0 90) (settings 1 0) (feed Loaded Jammed 1 0) (ring 2 0))) refl
-    ∷ case "last on the glass: Pending" (clearing 0 (feed Loaded Jammed 1 0) (ring 3 4)) (scan (Fetch J41-006 4 nine))
+    ∷ case "last on the glass: Pending, and with Append DestinationID rises" (clearing 0 (feed Loaded Jammed 1 0) (ring 3 4)) (scan (Fetch J41-006 4 nine))
     (sent 4 true (24 ∷ 25 ∷ 21 ∷ 22 ∷ []) (69 ∷ [])
-    (box (scanner Pending Timeout) (job 41 41 77 0 0) (side 7 0 90) (settings 0 1) (feed Loaded Jammed 1 0) (ring 2 0))) refl
+    (box (scanner Pending Timeout) (job 41 41 77 0 0) (side 7 0 91) (settings 0 1) (feed Loaded Jammed 1 0) (ring 2 0))) refl
     ∷ case "last, SideCount 8, Loaded: a side begins" (draining 0 8 (feed Loaded Jammed 0 0) (ring 3 4)) (scan (Fetch J41 255 nine))
     (sent 4 true (24 ∷ 25 ∷ 21 ∷ 22 ∷ []) (69 ∷ [])
-    (box (scanner Scanning Timeout) (job 41 41 77 0 0) (side 7 8 91) (settings 1 0) (feed Busy Jammed 0 0) (ring 2 0))) refl
+    (box (scanner Scanning Timeout) (job 41 41 77 0 0) (side 7 8 90) (settings 1 0) (feed Busy Jammed 0 0) (ring 2 0))) refl
     ∷ case "last, SideCount 8, a sheet in the tray: a side begins" (draining 0 8 (feed Unloaded Jammed 1 0) (ring 2 1)) (scan (Fetch J41 255 nine))
     (sent 1 true (23 ∷ []) (66 ∷ 67 ∷ 68 ∷ 69 ∷ [])
-    (box (scanner Scanning Timeout) (job 41 41 77 0 0) (side 7 8 91) (settings 1 0) (feed Busy Jammed 1 0) (ring 3 0))) refl
+    (box (scanner Scanning Timeout) (job 41 41 77 0 0) (side 7 8 90) (settings 1 0) (feed Busy Jammed 1 0) (ring 3 0))) refl
     ∷ case "last, SideCount −1: a side begins, −1 stays" (draining 0 minusOne (feed Unloaded Jammed 1 0) (ring 2 3)) (scan (Fetch J41 255 nine))
     (sent 3 true (23 ∷ 24 ∷ 25 ∷ []) (68 ∷ 69 ∷ [])
-    (box (scanner Scanning Timeout) (job 41 41 77 0 0) (side 7 minusOne 91) (settings 1 0) (feed Busy Jammed 1 0) (ring 0 0))) refl
+    (box (scanner Scanning Timeout) (job 41 41 77 0 0) (side 7 minusOne 90) (settings 1 0) (feed Busy Jammed 1 0) (ring 0 0))) refl
     ∷ case "a stop asked ends the job in the drain step" (draining 1 8 (feed Loaded Jammed 1 0) (ring 3 4)) (scan (Fetch J41 255 nine))
     (sent 4 true (24 ∷ 25 ∷ 21 ∷ 22 ∷ []) (69 ∷ [])
     (box (scanner Idle None) (job 0 41 77 0 0) (side 1 0 90) (settings 1 0) (feed Loaded Jammed 1 0) (ring 0 0))) refl
@@ -432,12 +440,12 @@ drains =
     ∷ case "SideNumber 998 goes to 999"
     (at (box (scanner Finishing Timeout) (job 41 41 77 13 0) (side 998 8 90) (settings 1 0) (feed Loaded Jammed 1 0) (ring 3 4))) (scan (Fetch J41 255 nine))
     (sent 4 true (24 ∷ 25 ∷ 21 ∷ 22 ∷ []) (69 ∷ [])
-    (box (scanner Scanning Timeout) (job 41 41 77 0 0) (side 999 8 91) (settings 1 0) (feed Busy Jammed 1 0) (ring 2 0))) refl
+    (box (scanner Scanning Timeout) (job 41 41 77 0 0) (side 999 8 90) (settings 1 0) (feed Busy Jammed 1 0) (ring 2 0))) refl
     ∷ case "SideNumber 999 goes to 0, DestinationID 4,294,967,295 too"
-    (at (box (scanner Finishing Timeout) (job 41 41 77 13 0) (side 999 8 4294967295) (settings 1 0) (feed Loaded Jammed 1 0) (ring 3 4)))
-    (scan (Fetch J41 255 nine))
+    (at (box (scanner Finishing Timeout) (job 41 41 77 13 0) (side 999 8 4294967295) (settings 1 1) (feed Loaded Jammed 1 0) (ring 3 4)))
+    (scan (Fetch J41-999 255 nine))
     (sent 4 true (24 ∷ 25 ∷ 21 ∷ 22 ∷ []) (69 ∷ [])
-    (box (scanner Scanning Timeout) (job 41 41 77 0 0) (side 0 8 0) (settings 1 0) (feed Busy Jammed 1 0) (ring 2 0))) refl
+    (box (scanner Scanning Timeout) (job 41 41 77 0 0) (side 0 8 0) (settings 1 1) (feed Busy Jammed 1 0) (ring 2 0))) refl
     ∷ case "SideNumber 0 goes to 1"
     (at (box (scanner Finishing Timeout) (job 41 41 77 13 0) (side 0 0 90) (settings 1 0) (feed Loaded Jammed 1 0) (ring 3 4))) (scan (Fetch J41 255 nine))
     (sent 4 true (24 ∷ 25 ∷ 21 ∷ 22 ∷ []) (69 ∷ [])
@@ -507,11 +515,11 @@ sideEnds =
     ∷ case "the ring empty, SideCount falls to 0: Pending" (drawing 0 1 (ring 3 0)) (report SideEnded)
     (done (box (scanner Pending Timeout) (job 41 41 77 0 0) (side 7 0 90) (settings 1 0) (feed Unloaded Jammed 1 0) (ring 3 0))) refl
     ∷ case "the ring empty, on the glass: Pending, the feeder stays Loaded" (copying 0 (feed Loaded Timeout 1 0) (ring 3 0)) (report SideEnded)
-    (done (box (scanner Pending Timeout) (job 41 41 77 0 0) (side 7 0 90) (settings 0 1) (feed Loaded Timeout 1 0) (ring 3 0))) refl
+    (done (box (scanner Pending Timeout) (job 41 41 77 0 0) (side 7 0 91) (settings 0 1) (feed Loaded Timeout 1 0) (ring 3 0))) refl
     ∷ case "the ring empty, a sheet in the tray: a side begins" (drawing 0 8 (ring 3 0)) (report SideEnded)
-    (done (box (scanner Scanning Timeout) (job 41 41 77 0 0) (side 7 7 91) (settings 1 0) (feed Busy Jammed 1 0) (ring 3 0))) refl
+    (done (box (scanner Scanning Timeout) (job 41 41 77 0 0) (side 7 7 90) (settings 1 0) (feed Busy Jammed 1 0) (ring 3 0))) refl
     ∷ case "the ring empty, −1: a side begins, −1 stays" (drawing 0 minusOne (ring 3 0)) (report SideEnded)
-    (done (box (scanner Scanning Timeout) (job 41 41 77 0 0) (side 7 minusOne 91) (settings 1 0) (feed Busy Jammed 1 0) (ring 3 0))) refl
+    (done (box (scanner Scanning Timeout) (job 41 41 77 0 0) (side 7 minusOne 90) (settings 1 0) (feed Busy Jammed 1 0) (ring 3 0))) refl
     ∷ case "the ring empty, a stop asked: end of job" (drawing 1 8 (ring 3 0)) (report SideEnded)
     (done (box (scanner Idle None) (job 0 41 77 0 0) (side 1 0 90) (settings 1 0) (feed Unloaded Jammed 1 0) (ring 0 0))) refl
     ∷ case "the ring empty, a stop asked on the glass: end of job" (copying 1 (feed Loaded Jammed 1 0) (ring 3 0)) (report SideEnded)
@@ -763,9 +771,180 @@ slips =
     (box (scanner Scanning None) (job 42 42 123 0 0) (side 1 1 91) (settings 0 0) (feed Unloaded Jammed 1 0) (ring 0 0))) refl
     ∷ afterwards "no ring bytes afterwards a jam" (drawing 0 8 (ring 3 4)) (report (Path 1) ∷ scan (Start 41 0 1) ∷ []) (scan (Fetch J41 255 nine))
     (sent 0 false [] (65 ∷ 66 ∷ 67 ∷ 68 ∷ 69 ∷ [])
-    (box (scanner Scanning None) (job 41 41 77 0 0) (side 6 1 91) (settings 0 0) (feed Stuck Jammed 1 1) (ring 0 0))) refl
+    (box (scanner Scanning None) (job 41 41 77 0 0) (side 6 1 90) (settings 0 0) (feed Stuck Jammed 1 1) (ring 0 0))) refl
     ∷ afterwards "−1 stays −1, side afterwards side" (drawing 0 minusOne (ring 3 0)) (report SideEnded ∷ report SideEnded ∷ []) (report SideEnded)
-    (done (box (scanner Scanning Timeout) (job 41 41 77 0 0) (side 9 minusOne 93) (settings 1 0) (feed Busy Jammed 1 0) (ring 3 0))) refl
+    (done (box (scanner Scanning Timeout) (job 41 41 77 0 0) (side 9 minusOne 90) (settings 1 0) (feed Busy Jammed 1 0) (ring 3 0))) refl
+    ∷ []
+
+-- ---- DestinationID rises by one exactly when the name differs from the last name that any job held
+pub destinations : List (Case Outcome)
+unfolding final
+destinations =
+    case "the first job's name counts as a change: 0 goes to 1"
+    (at (calledLast noName (box (scanner Idle None) (job 0 0 60 0 0) (side 1 0 0) (settings 1 1) (feed Unloaded None 0 0) (ring 0 0))))
+    (scan (StartScan 0 0 2 0))
+    (taking (time 60) (calledLast K1-001 (box (scanner Pending None) (job 1 1 60 0 0) (side 1 0 1) (settings 0 1) (feed Unloaded None 0 0) (ring 0 0)))) refl
+    ∷ case "the first job's name without Append"
+    (at (calledLast noName (box (scanner Idle None) (job 0 0 60 0 0) (side 1 0 0) (settings 1 1) (feed Unloaded None 0 0) (ring 0 0))))
+    (scan (StartScan 0 1 0 0))
+    (taking (time 60) (calledLast K1 (box (scanner Scanning None) (job 1 1 60 0 0) (side 1 1 1) (settings 0 0) (feed Unloaded None 0 0) (ring 0 0)))) refl
+    ∷ case "the next job has another name, with SideCount 0 too" (restingAfter K41-006 (settings 1 1) (feed Loaded Jammed 1 0)) (scan (StartScan 1 0 2 123))
+    (taking (time 123)
+    (calledLast K42-001 (box (scanner Pending None) (job 42 42 123 0 0) (side 1 0 91) (settings 1 1) (feed Loaded Jammed 1 0) (ring 3 0)))) refl
+    ∷ case "the side that begins then raises nothing more" (restingAfter K41-006 (settings 1 1) (feed Loaded Jammed 1 0)) (scan (StartScan 1 7 2 123))
+    (taking (time 123)
+    (calledLast K42-001 (box (scanner Scanning None) (job 42 42 123 0 0) (side 1 7 91) (settings 1 1) (feed Busy Jammed 1 0) (ring 3 0)))) refl
+    ∷ case "without Append the next job has another name" (restingAfter K41 (settings 1 0) (feed Loaded Jammed 1 0)) (scan (StartScan 1 0 2 123))
+    (taking (time 123) (calledLast K42 (box (scanner Pending None) (job 42 42 123 0 0) (side 1 0 91) (settings 1 0) (feed Loaded Jammed 1 0) (ring 3 0)))) refl
+    ∷ case "a job with the last name: DestinationID stays" (restingAfter K42-001 (settings 1 0) (feed Loaded Jammed 1 0)) (scan (StartScan 0 0 1 123))
+    (taking (time 123)
+    (calledLast K42-001 (box (scanner Pending None) (job 42 42 123 0 0) (side 1 0 90) (settings 0 1) (feed Loaded Jammed 1 0) (ring 3 0)))) refl
+    ∷ case "and stays where a side begins" (restingAfter K42-001 (settings 1 0) (feed Loaded Jammed 1 0)) (scan (StartScan 1 7 1 123))
+    (taking (time 123)
+    (calledLast K42-001 (box (scanner Scanning None) (job 42 42 123 0 0) (side 1 7 90) (settings 1 1) (feed Busy Jammed 1 0) (ring 3 0)))) refl
+    ∷ case "and stays without Append" (restingAfter K42 (settings 1 1) (feed Loaded Jammed 1 0)) (scan (StartScan 0 0 0 123))
+    (taking (time 123) (calledLast K42 (box (scanner Pending None) (job 42 42 123 0 0) (side 1 0 90) (settings 0 0) (feed Loaded Jammed 1 0) (ring 3 0)))) refl
+    ∷ case "and stays without Append where a side begins" (restingAfter K42 (settings 0 1) (feed Loaded Jammed 1 0)) (scan (StartScan 1 2 0 123))
+    (taking (time 123) (calledLast K42 (box (scanner Scanning None) (job 42 42 123 0 0) (side 1 2 90) (settings 1 0) (feed Busy Jammed 1 0) (ring 3 0)))) refl
+    ∷ case "Append is settled before the name is compared: the same" (restingAfter K42-001 (settings 1 1) (feed Loaded Jammed 1 0)) (scan (StartScan 0 0 2 123))
+    (taking (time 123)
+    (calledLast K42-001 (box (scanner Pending None) (job 42 42 123 0 0) (side 1 0 90) (settings 0 1) (feed Loaded Jammed 1 0) (ring 3 0)))) refl
+    ∷ case "Append is settled before the name is compared: another" (restingAfter K42-001 (settings 1 0) (feed Loaded Jammed 1 0)) (scan (StartScan 0 0 2 123))
+    (taking (time 123) (calledLast K42 (box (scanner Pending None) (job 42 42 123 0 0) (side 1 0 91) (settings 0 0) (feed Loaded Jammed 1 0) (ring 3 0)))) refl
+    ∷ case "the name with a side is another than the one without" (restingAfter K42 (settings 1 0) (feed Loaded Jammed 1 0)) (scan (StartScan 0 0 1 123))
+    (taking (time 123)
+    (calledLast K42-001 (box (scanner Pending None) (job 42 42 123 0 0) (side 1 0 91) (settings 0 1) (feed Loaded Jammed 1 0) (ring 3 0)))) refl
+    ∷ case "no last name at all" (restingAfter noName (settings 1 0) (feed Loaded Jammed 1 0)) (scan (StartScan 0 0 1 123))
+    (taking (time 123)
+    (calledLast K42-001 (box (scanner Pending None) (job 42 42 123 0 0) (side 1 0 91) (settings 0 1) (feed Loaded Jammed 1 0) (ring 3 0)))) refl
+    ∷ case "the last name differs in byte 1" (restingAfter (kept 0x4B30303030303030 0x3034323030312E6A 0x7067 18) (settings 1 0) (feed Loaded Jammed 1 0))
+    (scan (StartScan 0 0 1 123))
+    (taking (time 123)
+    (calledLast K42-001 (box (scanner Pending None) (job 42 42 123 0 0) (side 1 0 91) (settings 0 1) (feed Loaded Jammed 1 0) (ring 3 0)))) refl
+    ∷ case "the last name differs in byte 8" (restingAfter (kept 0x4A30303030303031 0x3034323030312E6A 0x7067 18) (settings 1 0) (feed Loaded Jammed 1 0))
+    (scan (StartScan 0 0 1 123))
+    (taking (time 123)
+    (calledLast K42-001 (box (scanner Pending None) (job 42 42 123 0 0) (side 1 0 91) (settings 0 1) (feed Loaded Jammed 1 0) (ring 3 0)))) refl
+    ∷ case "the last name differs in byte 9" (restingAfter (kept 0x4A30303030303030 0x3134323030312E6A 0x7067 18) (settings 1 0) (feed Loaded Jammed 1 0))
+    (scan (StartScan 0 0 1 123))
+    (taking (time 123)
+    (calledLast K42-001 (box (scanner Pending None) (job 42 42 123 0 0) (side 1 0 91) (settings 0 1) (feed Loaded Jammed 1 0) (ring 3 0)))) refl
+    ∷ case "the last name differs in byte 16" (restingAfter (kept 0x4A30303030303030 0x3034323030312E6B 0x7067 18) (settings 1 0) (feed Loaded Jammed 1 0))
+    (scan (StartScan 0 0 1 123))
+    (taking (time 123)
+    (calledLast K42-001 (box (scanner Pending None) (job 42 42 123 0 0) (side 1 0 91) (settings 0 1) (feed Loaded Jammed 1 0) (ring 3 0)))) refl
+    ∷ case "the last name differs in byte 17" (restingAfter (kept 0x4A30303030303030 0x3034323030312E6A 0x7167 18) (settings 1 0) (feed Loaded Jammed 1 0))
+    (scan (StartScan 0 0 1 123))
+    (taking (time 123)
+    (calledLast K42-001 (box (scanner Pending None) (job 42 42 123 0 0) (side 1 0 91) (settings 0 1) (feed Loaded Jammed 1 0) (ring 3 0)))) refl
+    ∷ case "the last name differs in byte 18" (restingAfter (kept 0x4A30303030303030 0x3034323030312E6A 0x7068 18) (settings 1 0) (feed Loaded Jammed 1 0))
+    (scan (StartScan 0 0 1 123))
+    (taking (time 123)
+    (calledLast K42-001 (box (scanner Pending None) (job 42 42 123 0 0) (side 1 0 91) (settings 0 1) (feed Loaded Jammed 1 0) (ring 3 0)))) refl
+    ∷ case "the last name has another length" (restingAfter (kept 0x4A30303030303030 0x3034323030312E6A 0x7067 17) (settings 1 0) (feed Loaded Jammed 1 0))
+    (scan (StartScan 0 0 1 123))
+    (taking (time 123)
+    (calledLast K42-001 (box (scanner Pending None) (job 42 42 123 0 0) (side 1 0 91) (settings 0 1) (feed Loaded Jammed 1 0) (ring 3 0)))) refl
+    ∷ case "the same without Append" (restingAfter (kept 0x4A30303030303030 0x3034322E6A706700 0 16) (settings 1 1) (feed Loaded Jammed 1 0))
+    (scan (StartScan 0 0 0 123))
+    (taking (time 123) (calledLast K42 (box (scanner Pending None) (job 42 42 123 0 0) (side 1 0 91) (settings 0 0) (feed Loaded Jammed 1 0) (ring 3 0)))) refl
+    ∷ case "the last name has a byte behind its length" (restingAfter (kept 0x4A30303030303030 0x3034322E6A706700 1 15) (settings 1 1) (feed Loaded Jammed 1 0))
+    (scan (StartScan 0 0 0 123))
+    (taking (time 123) (calledLast K42 (box (scanner Pending None) (job 42 42 123 0 0) (side 1 0 91) (settings 0 0) (feed Loaded Jammed 1 0) (ring 3 0)))) refl
+    ∷ case "4,294,967,295 goes to 0 with SideCount 0 too"
+    (at (box (scanner Idle Timeout) (job 0 41 77 0 0) (side 1 0 4294967295) (settings 1 0) (feed Loaded Jammed 1 0) (ring 3 0))) (scan (StartScan 0 0 1 123))
+    (taking (time 123)
+    (calledLast K42-001 (box (scanner Pending None) (job 42 42 123 0 0) (side 1 0 0) (settings 0 1) (feed Loaded Jammed 1 0) (ring 3 0)))) refl
+    ∷ case "4,294,967,295 stays with the last name"
+    (at (calledLast K42-001 (box (scanner Idle Timeout) (job 0 41 77 0 0) (side 1 0 4294967295) (settings 1 0) (feed Loaded Jammed 1 0) (ring 3 0))))
+    (scan (StartScan 1 7 1 123))
+    (taking (time 123)
+    (calledLast K42-001 (box (scanner Scanning None) (job 42 42 123 0 0) (side 1 7 4294967295) (settings 1 1) (feed Busy Jammed 1 0) (ring 3 0)))) refl
+    ∷ case "with Append the next side has another name: in Pending" (drainingNumbered 0 0 (feed Loaded Jammed 1 0) (ring 3 4)) (scan (Fetch J41-006 255 nine))
+    (sent 4 true (24 ∷ 25 ∷ 21 ∷ 22 ∷ []) (69 ∷ [])
+    (calledLast K41-007 (box (scanner Pending Timeout) (job 41 41 77 0 0) (side 7 0 91) (settings 1 1) (feed Loaded Jammed 1 0) (ring 2 0)))) refl
+    ∷ case "in Erred, by 711" (drainingNumbered 0 8 (feed Stuck Jammed 0 1) (ring 3 4)) (scan (Fetch J41-006 255 nine))
+    (sent 4 true (24 ∷ 25 ∷ 21 ∷ 22 ∷ []) (69 ∷ [])
+    (calledLast K41-007 (box (scanner Erred Jammed) (job 41 41 77 0 0) (side 7 8 91) (settings 1 1) (feed Stuck Jammed 0 1) (ring 2 0)))) refl
+    ∷ case "in Pending, by 713" (drainingNumbered 0 8 (feed Unloaded Jammed 0 0) (ring 3 4)) (scan (Fetch J41-006 255 nine))
+    (sent 4 true (24 ∷ 25 ∷ 21 ∷ 22 ∷ []) (69 ∷ [])
+    (calledLast K41-007 (box (scanner Pending Timeout) (job 41 41 77 0 0) (side 7 8 91) (settings 1 1) (feed Unloaded Jammed 0 0) (ring 2 0)))) refl
+    ∷ case "in Pending, by 713 after −1" (drainingNumbered 0 minusOne (feed Unloaded Jammed 0 0) (ring 3 4)) (scan (Fetch J41-006 255 nine))
+    (sent 4 true (24 ∷ 25 ∷ 21 ∷ 22 ∷ []) (69 ∷ [])
+    (calledLast K41-007 (box (scanner Pending Timeout) (job 41 41 77 0 0) (side 7 0 91) (settings 1 1) (feed Unloaded Jammed 0 0) (ring 2 0)))) refl
+    ∷ case "in Scanning: it rises once" (drainingNumbered 0 8 (feed Unloaded Jammed 1 0) (ring 3 4)) (scan (Fetch J41-006 255 nine))
+    (sent 4 true (24 ∷ 25 ∷ 21 ∷ 22 ∷ []) (69 ∷ [])
+    (calledLast K41-007 (box (scanner Scanning Timeout) (job 41 41 77 0 0) (side 7 8 91) (settings 1 1) (feed Busy Jammed 1 0) (ring 2 0)))) refl
+    ∷ case "a drain step that ends the job moves neither DestinationID nor the last name" (drainingNumbered 1 8 (feed Loaded Jammed 1 0) (ring 3 4))
+    (scan (Fetch J41-006 255 nine))
+    (sent 4 true (24 ∷ 25 ∷ 21 ∷ 22 ∷ []) (69 ∷ [])
+    (calledLast K41-006 (box (scanner Idle None) (job 0 41 77 0 0) (side 1 0 90) (settings 1 1) (feed Loaded Jammed 1 0) (ring 0 0)))) refl
+    ∷ case "nor does it where no side is due" (drainingNumbered 1 0 (feed Unloaded Jammed 1 0) (ring 3 4)) (scan (Fetch J41-006 255 nine))
+    (sent 4 true (24 ∷ 25 ∷ 21 ∷ 22 ∷ []) (69 ∷ [])
+    (calledLast K41-006 (box (scanner Idle None) (job 0 41 77 0 0) (side 1 0 90) (settings 1 1) (feed Unloaded Jammed 1 0) (ring 0 0)))) refl
+    ∷ case "a fetch that is not the last moves neither" (drainingNumbered 0 8 (feed Loaded Jammed 1 0) (ring 3 4)) (scan (Fetch J41-006 3 nine))
+    (sent 3 false (24 ∷ 25 ∷ 21 ∷ []) (68 ∷ 69 ∷ [])
+    (calledLast K41-006 (box (scanner Finishing Timeout) (job 41 41 77 0 0) (side 6 8 90) (settings 1 1) (feed Loaded Jammed 1 0) (ring 1 1)))) refl
+    ∷ case "without Append the name stays: 4,294,967,295 too"
+    (at (box (scanner Finishing Timeout) (job 41 41 77 13 0) (side 6 8 4294967295) (settings 1 0) (feed Loaded Jammed 1 0) (ring 3 4)))
+    (scan (Fetch J41 255 nine))
+    (sent 4 true (24 ∷ 25 ∷ 21 ∷ 22 ∷ []) (69 ∷ [])
+    (calledLast K41 (box (scanner Scanning Timeout) (job 41 41 77 0 0) (side 7 8 4294967295) (settings 1 0) (feed Busy Jammed 1 0) (ring 2 0)))) refl
+    ∷ case "without Append SideNumber 999 goes to 0 under the same name"
+    (at (box (scanner Finishing Timeout) (job 41 41 77 13 0) (side 999 0 90) (settings 1 0) (feed Loaded Jammed 1 0) (ring 3 4))) (scan (Fetch J41 255 nine))
+    (sent 4 true (24 ∷ 25 ∷ 21 ∷ 22 ∷ []) (69 ∷ [])
+    (calledLast K41 (box (scanner Pending Timeout) (job 41 41 77 0 0) (side 0 0 90) (settings 1 0) (feed Loaded Jammed 1 0) (ring 2 0)))) refl
+    ∷ case "with Append SideNumber 999 goes to 0, and the name with it"
+    (at (box (scanner Finishing Timeout) (job 41 41 77 13 0) (side 999 0 90) (settings 1 1) (feed Loaded Jammed 1 0) (ring 3 4)))
+    (scan (Fetch J41-999 255 nine))
+    (sent 4 true (24 ∷ 25 ∷ 21 ∷ 22 ∷ []) (69 ∷ [])
+    (calledLast K41-000 (box (scanner Pending Timeout) (job 41 41 77 0 0) (side 0 0 91) (settings 1 1) (feed Loaded Jammed 1 0) (ring 2 0)))) refl
+    ∷ case "Side ended, the ring empty: with Append the next side has another name" (drawingNumbered 0 8 1 (ring 3 0)) (report SideEnded)
+    (done (calledLast K41-007 (box (scanner Scanning Timeout) (job 41 41 77 0 0) (side 7 7 91) (settings 1 1) (feed Busy Jammed 1 0) (ring 3 0)))) refl
+    ∷ case "the same in Pending, by 713" (drawingNumbered 0 8 0 (ring 3 0)) (report SideEnded)
+    (done (calledLast K41-007 (box (scanner Pending Timeout) (job 41 41 77 0 0) (side 7 7 91) (settings 1 1) (feed Unloaded Jammed 0 0) (ring 3 0)))) refl
+    ∷ case "the same in Pending, the last side" (drawingNumbered 0 1 1 (ring 3 0)) (report SideEnded)
+    (done (calledLast K41-007 (box (scanner Pending Timeout) (job 41 41 77 0 0) (side 7 0 91) (settings 1 1) (feed Unloaded Jammed 1 0) (ring 3 0)))) refl
+    ∷ case "Side ended, the ring empty: an end of job moves neither" (drawingNumbered 1 8 1 (ring 3 0)) (report SideEnded)
+    (done (calledLast K41-006 (box (scanner Idle None) (job 0 41 77 0 0) (side 1 0 90) (settings 1 1) (feed Unloaded Jammed 1 0) (ring 0 0)))) refl
+    ∷ case "Side ended with bytes stored moves neither" (drawingNumbered 0 8 1 (ring 3 4)) (report SideEnded)
+    (done (calledLast K41-006 (box (scanner Finishing Timeout) (job 41 41 77 0 0) (side 6 7 90) (settings 1 1) (feed Unloaded Jammed 1 0) (ring 3 4)))) refl
+    ∷ case "a jam keeps number and name" (drawingNumbered 1 8 1 (ring 3 4)) (report (Path 1))
+    (done (calledLast K41-006 (box (scanner Erred Jammed) (job 41 41 77 0 0) (side 6 8 90) (settings 1 1) (feed Stuck Jammed 1 1) (ring 0 0)))) refl
+    ∷ afterwards "a side begun again after a jam keeps them" (drawingNumbered 0 8 1 (ring 3 4))
+    (report (Path 1) ∷ report (Path 0) ∷ feeder (Reset 41) ∷ []) (scan (Start 41 1 7))
+    (done (calledLast K41-006 (box (scanner Scanning None) (job 41 41 77 0 0) (side 6 7 90) (settings 1 1) (feed Busy None 1 0) (ring 0 0)))) refl
+    ∷ afterwards "so does one begun on the glass instead" (drawingNumbered 0 8 1 (ring 3 4))
+    (report (Path 1) ∷ []) (scan (Start 41 0 1))
+    (done (calledLast K41-006 (box (scanner Scanning None) (job 41 41 77 0 0) (side 6 1 90) (settings 0 1) (feed Stuck Jammed 1 1) (ring 0 0)))) refl
+    ∷ afterwards "Start after a drain step to Pending raises nothing more" (drainingNumbered 0 0 (feed Loaded Jammed 1 0) (ring 3 4))
+    (scan (Fetch J41-006 255 nine) ∷ []) (scan (Start 41 1 7))
+    (done (calledLast K41-007 (box (scanner Scanning None) (job 41 41 77 0 0) (side 7 7 91) (settings 1 1) (feed Busy Jammed 1 0) (ring 2 0)))) refl
+    ∷ afterwards "GetDestination tells the new name with its number" (drainingNumbered 0 8 (feed Loaded Jammed 1 0) (ring 3 4))
+    (scan (Fetch J41-006 255 nine) ∷ []) (scan (GetDestination 41))
+    (taking (destination J41-007 91)
+    (calledLast K41-007 (box (scanner Scanning Timeout) (job 41 41 77 0 0) (side 7 8 91) (settings 1 1) (feed Busy Jammed 1 0) (ring 2 0)))) refl
+    ∷ case "Stop that ends the job keeps number and last name" (holding (settings 1 1) (feed Loaded Jammed 1 0)) (scan (Stop 41))
+    (done (calledLast K41-006 (box (scanner Idle None) (job 0 41 77 0 0) (side 1 0 90) (settings 1 1) (feed Loaded Jammed 1 0) (ring 0 0)))) refl
+    ∷ case "Abort keeps them" (drawingNumbered 1 8 1 (ring 3 4)) (scan (Abort 41))
+    (done (calledLast K41-006 (box (scanner Idle None) (job 0 41 77 0 0) (side 1 0 90) (settings 1 1) (feed Unloaded Jammed 1 0) (ring 0 0)))) refl
+    ∷ case "an end by time keeps them"
+    (at (box (scanner Scanning Timeout) (job 41 41 77 76 0) (side 6 8 90) (settings 1 1) (feed Busy Jammed 1 0) (ring 3 4))) (report Tick)
+    (done (calledLast K41-006 (box (scanner Idle Timeout) (job 0 41 77 0 0) (side 1 0 90) (settings 1 1) (feed Stuck Timeout 1 0) (ring 0 0)))) refl
+    ∷ afterwards "the last name is the last side's, not the job's first" (drainingNumbered 0 0 (feed Loaded Jammed 1 0) (ring 3 4))
+    (scan (Fetch J41-006 255 nine) ∷ []) (scan (Abort 41))
+    (done (calledLast K41-007 (box (scanner Idle None) (job 0 41 77 0 0) (side 1 0 91) (settings 1 1) (feed Loaded Jammed 1 0) (ring 0 0)))) refl
+    ∷ afterwards "nothing in Idle forgets it" (restingAfter K42-001 (settings 1 0) (feed Loaded Jammed 1 0))
+    (report Tick ∷ report (Tray 0) ∷ feeder (Load 0) ∷ report (Path 1) ∷ scan GetState ∷ scan (Stop 41) ∷ []) (scan (StartScan 0 0 1 123))
+    (taking (time 123)
+    (calledLast K42-001 (box (scanner Pending None) (job 42 42 123 0 0) (side 1 0 90) (settings 0 1) (feed Stuck Jammed 0 1) (ring 3 0)))) refl
+    ∷ afterwards "job after job it rises by one" (resting (settings 1 0) (feed Loaded Jammed 1 0))
+    (scan (StartScan 0 0 1 123) ∷ scan (Abort 42) ∷ []) (scan (StartScan 0 1 1 45))
+    (taking (time 45)
+    (calledLast K43-001 (box (scanner Scanning None) (job 43 43 45 0 0) (side 1 1 92) (settings 0 1) (feed Loaded Jammed 1 0) (ring 0 0)))) refl
+    ∷ afterwards "a refused StartScan counts for nothing" (resting (settings 1 0) (feed Loaded Jammed 1 0))
+    (scan (StartScan 0 2 1 123) ∷ report (Path 1) ∷ scan (StartScan 1 7 1 123) ∷ []) (scan (StartScan 0 0 0 123))
+    (taking (time 123) (calledLast K42 (box (scanner Pending None) (job 42 42 123 0 0) (side 1 0 91) (settings 0 0) (feed Stuck Jammed 1 1) (ring 3 0)))) refl
     ∷ []
 
 -- ---- 604 for every call, before its own numbers, and all as it was
@@ -793,13 +972,17 @@ every604 =
     ∷ keeps "Tray 604" unsoundState (report (Tray 2)) 604 refl
     ∷ keeps "Path 604" unsoundState (report (Path 2)) 604 refl
     ∷ keeps "Tick 604" unsoundState (report Tick) 604 refl
+    ∷ keeps "604 where a job is held and the last name is not its own"
+    (at (calledLast K41-007 (box (scanner Pending Timeout) (job 41 41 77 13 0) (side 6 8 90) (settings 1 1) (feed Loaded Jammed 1 0) (ring 3 0))))
+    (scan (GetDestination 41)) 604 refl
     ∷ []
 
 -- every case of a call
 abbrev pub table : List (Case Outcome)
 table =
     starred ++ startScans ++ startScansRefused ++ starts ++ startsRefused ++ stops ++ aborts ++ reads ++ fetches ++ fetchesRefused ++ drains ++ byteReports
-    ++ sideEnds ++ sensorReports ++ tickReports ++ loadCalls ++ ejectCalls ++ resetCalls ++ modeCalls ++ slips ++ every604
+    ++ sideEnds ++ sensorReports ++ tickReports ++ loadCalls ++ ejectCalls ++ resetCalls ++ modeCalls ++ slips ++ destinations
+    ++ every604
 
 -- ---- reason numbers, in order of test: every call's tests in a box where as many hold as can
 pub tests : List (Case (List Guard))
@@ -880,81 +1063,110 @@ numbers =
     ∷ []
 
 -- ---- the moves, on a record in which all numbers differ, sound or not: what a sentence does not name stays
+abbrev pub odds : Scanner → Job → Side → Settings → Feeder → Ring → Record
+odds s j d t f g = calledLast (kept 73 76 79 82) (box s j d t f g)
+
 abbrev pub odd : Scan → Feed → Record
-odd s f = box (scanner s Timeout) (job 31 34 97 40 43) (side 46 49 52) (settings 55 58) (feed f Jammed 61 64) (ring 67 70)
+odd s f = odds (scanner s Timeout) (job 31 34 97 40 43) (side 46 49 52) (settings 55 58) (feed f Jammed 61 64) (ring 67 70)
 
 pub moves : List (Case Record)
 unfolding final
 moves =
     that "the scanner changed" (withScanner (scanner Erred Jammed) (odd Finishing Loaded))
-    (box (scanner Erred Jammed) (job 31 34 97 40 43) (side 46 49 52) (settings 55 58) (feed Loaded Jammed 61 64) (ring 67 70)) refl
+    (odds (scanner Erred Jammed) (job 31 34 97 40 43) (side 46 49 52) (settings 55 58) (feed Loaded Jammed 61 64) (ring 67 70)) refl
     ∷ that "the job changed" (withJob (job 81 84 87 90 93) (odd Finishing Loaded))
-    (box (scanner Finishing Timeout) (job 81 84 87 90 93) (side 46 49 52) (settings 55 58) (feed Loaded Jammed 61 64) (ring 67 70)) refl
+    (odds (scanner Finishing Timeout) (job 81 84 87 90 93) (side 46 49 52) (settings 55 58) (feed Loaded Jammed 61 64) (ring 67 70)) refl
     ∷ that "the side changed" (withSide (side 81 84 87) (odd Finishing Loaded))
-    (box (scanner Finishing Timeout) (job 31 34 97 40 43) (side 81 84 87) (settings 55 58) (feed Loaded Jammed 61 64) (ring 67 70)) refl
+    (odds (scanner Finishing Timeout) (job 31 34 97 40 43) (side 81 84 87) (settings 55 58) (feed Loaded Jammed 61 64) (ring 67 70)) refl
     ∷ that "the settings changed" (withSettings (settings 81 84) (odd Finishing Loaded))
-    (box (scanner Finishing Timeout) (job 31 34 97 40 43) (side 46 49 52) (settings 81 84) (feed Loaded Jammed 61 64) (ring 67 70)) refl
+    (odds (scanner Finishing Timeout) (job 31 34 97 40 43) (side 46 49 52) (settings 81 84) (feed Loaded Jammed 61 64) (ring 67 70)) refl
     ∷ that "the feeder changed" (withFeeder (feed Stuck Timeout 81 84) (odd Finishing Loaded))
-    (box (scanner Finishing Timeout) (job 31 34 97 40 43) (side 46 49 52) (settings 55 58) (feed Stuck Timeout 81 84) (ring 67 70)) refl
+    (odds (scanner Finishing Timeout) (job 31 34 97 40 43) (side 46 49 52) (settings 55 58) (feed Stuck Timeout 81 84) (ring 67 70)) refl
     ∷ that "the ring changed" (withRing (ring 81 84) (odd Finishing Loaded))
-    (box (scanner Finishing Timeout) (job 31 34 97 40 43) (side 46 49 52) (settings 55 58) (feed Loaded Jammed 61 64) (ring 81 84)) refl
+    (odds (scanner Finishing Timeout) (job 31 34 97 40 43) (side 46 49 52) (settings 55 58) (feed Loaded Jammed 61 64) (ring 81 84)) refl
     ∷ that "the scanner stands so, its FailureCode kept" (standing Pending (odd Finishing Loaded))
-    (box (scanner Pending Timeout) (job 31 34 97 40 43) (side 46 49 52) (settings 55 58) (feed Loaded Jammed 61 64) (ring 67 70)) refl
+    (odds (scanner Pending Timeout) (job 31 34 97 40 43) (side 46 49 52) (settings 55 58) (feed Loaded Jammed 61 64) (ring 67 70)) refl
     ∷ that "quiet set" (quietAt 81 (odd Finishing Loaded))
-    (box (scanner Finishing Timeout) (job 31 34 97 81 43) (side 46 49 52) (settings 55 58) (feed Loaded Jammed 61 64) (ring 67 70)) refl
+    (odds (scanner Finishing Timeout) (job 31 34 97 81 43) (side 46 49 52) (settings 55 58) (feed Loaded Jammed 61 64) (ring 67 70)) refl
     ∷ that "the stop-asked mark set" (stopAt 81 (odd Finishing Loaded))
-    (box (scanner Finishing Timeout) (job 31 34 97 40 81) (side 46 49 52) (settings 55 58) (feed Loaded Jammed 61 64) (ring 67 70)) refl
+    (odds (scanner Finishing Timeout) (job 31 34 97 40 81) (side 46 49 52) (settings 55 58) (feed Loaded Jammed 61 64) (ring 67 70)) refl
     ∷ that "SideCount set" (countAt 81 (odd Finishing Loaded))
-    (box (scanner Finishing Timeout) (job 31 34 97 40 43) (side 46 81 52) (settings 55 58) (feed Loaded Jammed 61 64) (ring 67 70)) refl
+    (odds (scanner Finishing Timeout) (job 31 34 97 40 43) (side 46 81 52) (settings 55 58) (feed Loaded Jammed 61 64) (ring 67 70)) refl
     ∷ that "emptying the ring sets start and stored to 0" (emptied (odd Finishing Loaded))
-    (box (scanner Finishing Timeout) (job 31 34 97 40 43) (side 46 49 52) (settings 55 58) (feed Loaded Jammed 61 64) (ring 0 0)) refl
+    (odds (scanner Finishing Timeout) (job 31 34 97 40 43) (side 46 49 52) (settings 55 58) (feed Loaded Jammed 61 64) (ring 0 0)) refl
     ∷ that "no byte moved: quiet stays" (heard 0 (odd Finishing Loaded))
-    (box (scanner Finishing Timeout) (job 31 34 97 40 43) (side 46 49 52) (settings 55 58) (feed Loaded Jammed 61 64) (ring 67 70)) refl
+    (odds (scanner Finishing Timeout) (job 31 34 97 40 43) (side 46 49 52) (settings 55 58) (feed Loaded Jammed 61 64) (ring 67 70)) refl
     ∷ that "one byte moved: quiet 0" (heard 1 (odd Finishing Loaded))
-    (box (scanner Finishing Timeout) (job 31 34 97 0 43) (side 46 49 52) (settings 55 58) (feed Loaded Jammed 61 64) (ring 67 70)) refl
-    ∷ that "DestinationID rises" (announced (odd Finishing Loaded))
-    (box (scanner Finishing Timeout) (job 31 34 97 40 43) (side 46 49 53) (settings 55 58) (feed Loaded Jammed 61 64) (ring 67 70)) refl
+    (odds (scanner Finishing Timeout) (job 31 34 97 0 43) (side 46 49 52) (settings 55 58) (feed Loaded Jammed 61 64) (ring 67 70)) refl
+    ∷ that "the last name changed" (withNames (record { last = kept 81 84 87 90 }) (odd Finishing Loaded))
+    (calledLast (kept 81 84 87 90)
+    (box (scanner Finishing Timeout) (job 31 34 97 40 43) (side 46 49 52) (settings 55 58) (feed Loaded Jammed 61 64) (ring 67 70))) refl
+    ∷ that "another name than the last: DestinationID rises, and the last name is the present one" (announced (odd Finishing Loaded))
+    (calledLast K31 (box (scanner Finishing Timeout) (job 31 34 97 40 43) (side 46 49 53) (settings 55 58) (feed Loaded Jammed 61 64) (ring 67 70))) refl
+    ∷ that "the last name: nothing moves"
+    (announced
+    (calledLast K31 (box (scanner Finishing Timeout) (job 31 34 97 40 43) (side 46 49 52) (settings 55 58) (feed Loaded Jammed 61 64) (ring 67 70))))
+    (calledLast K31 (box (scanner Finishing Timeout) (job 31 34 97 40 43) (side 46 49 52) (settings 55 58) (feed Loaded Jammed 61 64) (ring 67 70))) refl
+    ∷ that "another name than the last, with Append"
+    (announced
+    (calledLast K31 (box (scanner Finishing Timeout) (job 31 34 97 40 43) (side 46 49 52) (settings 55 1) (feed Loaded Jammed 61 64) (ring 67 70))))
+    (calledLast K31-046 (box (scanner Finishing Timeout) (job 31 34 97 40 43) (side 46 49 53) (settings 55 1) (feed Loaded Jammed 61 64) (ring 67 70))) refl
+    ∷ that "the last name, with Append: nothing moves"
+    (announced
+    (calledLast K31-046 (box (scanner Finishing Timeout) (job 31 34 97 40 43) (side 46 49 52) (settings 55 1) (feed Loaded Jammed 61 64) (ring 67 70))))
+    (calledLast K31-046 (box (scanner Finishing Timeout) (job 31 34 97 40 43) (side 46 49 52) (settings 55 1) (feed Loaded Jammed 61 64) (ring 67 70))) refl
+    ∷ that "the name that the last number given would have is another"
+    (announced
+    (calledLast K34 (box (scanner Finishing Timeout) (job 31 34 97 40 43) (side 46 49 52) (settings 55 58) (feed Loaded Jammed 61 64) (ring 67 70))))
+    (calledLast K31 (box (scanner Finishing Timeout) (job 31 34 97 40 43) (side 46 49 53) (settings 55 58) (feed Loaded Jammed 61 64) (ring 67 70))) refl
+    ∷ that "4,294,967,295 goes to 0"
+    (announced (odds (scanner Idle Timeout) (job 31 34 97 40 43) (side 46 49 4294967295) (settings 55 58) (feed Loaded Jammed 61 64) (ring 67 70)))
+    (calledLast K31 (box (scanner Idle Timeout) (job 31 34 97 40 43) (side 46 49 0) (settings 55 58) (feed Loaded Jammed 61 64) (ring 67 70))) refl
+    ∷ that "4,294,967,295 stays with the last name"
+    (announced
+    (calledLast K31 (box (scanner Idle Timeout) (job 31 34 97 40 43) (side 46 49 4294967295) (settings 55 58) (feed Loaded Jammed 61 64) (ring 67 70))))
+    (calledLast K31 (box (scanner Idle Timeout) (job 31 34 97 40 43) (side 46 49 4294967295) (settings 55 58) (feed Loaded Jammed 61 64) (ring 67 70))) refl
     ∷ that "a side begins" (begun (odd Finishing Loaded))
-    (box (scanner Scanning Timeout) (job 31 34 97 40 43) (side 46 49 53) (settings 55 58) (feed Loaded Jammed 61 64) (ring 67 70)) refl
+    (odds (scanner Scanning Timeout) (job 31 34 97 40 43) (side 46 49 52) (settings 55 58) (feed Loaded Jammed 61 64) (ring 67 70)) refl
     ∷ that "end of job, however it ended" (released Jammed (feed Stuck Timeout 81 84) (odd Finishing Loaded))
-    (box (scanner Idle Jammed) (job 0 34 97 0 0) (side 1 0 52) (settings 55 58) (feed Stuck Timeout 81 84) (ring 0 0)) refl
+    (odds (scanner Idle Jammed) (job 0 34 97 0 0) (side 1 0 52) (settings 55 58) (feed Stuck Timeout 81 84) (ring 0 0)) refl
     ∷ that "end of job" (ended (odd Scanning Busy))
-    (box (scanner Idle None) (job 0 34 97 0 0) (side 1 0 52) (settings 55 58) (feed Unloaded Jammed 61 64) (ring 0 0)) refl
+    (odds (scanner Idle None) (job 0 34 97 0 0) (side 1 0 52) (settings 55 58) (feed Unloaded Jammed 61 64) (ring 0 0)) refl
     ∷ that "end of job by time" (timedOut (odd Scanning Busy))
-    (box (scanner Idle Timeout) (job 0 34 97 0 0) (side 1 0 52) (settings 55 58) (feed Stuck Timeout 61 64) (ring 0 0)) refl
+    (odds (scanner Idle Timeout) (job 0 34 97 0 0) (side 1 0 52) (settings 55 58) (feed Stuck Timeout 61 64) (ring 0 0)) refl
     ∷ that "StartScan: Append, the job and its time stored" (given 81 84 (odd Finishing Loaded))
-    (box (scanner Finishing Timeout) (job 35 35 84 40 43) (side 46 49 52) (settings 55 81) (feed Loaded Jammed 61 64) (ring 67 70)) refl
+    (odds (scanner Finishing Timeout) (job 35 35 84 40 43) (side 46 49 52) (settings 55 81) (feed Loaded Jammed 61 64) (ring 67 70)) refl
     ∷ that "UseFeeder and SideCount stored, FailureCode none, quiet 0" (readied 81 84 (odd Finishing Loaded))
-    (box (scanner Pending None) (job 31 34 97 0 43) (side 46 84 52) (settings 81 58) (feed Loaded Jammed 61 64) (ring 67 70)) refl
+    (odds (scanner Pending None) (job 31 34 97 0 43) (side 46 84 52) (settings 81 58) (feed Loaded Jammed 61 64) (ring 67 70)) refl
     ∷ that "Start on the glass" (started 81 84 (odd Finishing Loaded))
-    (box (scanner Scanning None) (job 31 34 97 0 43) (side 46 84 53) (settings 81 58) (feed Loaded Jammed 61 64) (ring 67 70)) refl
+    (odds (scanner Scanning None) (job 31 34 97 0 43) (side 46 84 52) (settings 81 58) (feed Loaded Jammed 61 64) (ring 67 70)) refl
     ∷ that "Start from the feeder" (started 1 84 (odd Finishing Loaded))
-    (box (scanner Scanning None) (job 31 34 97 0 43) (side 46 84 53) (settings 1 58) (feed Busy Jammed 61 64) (ring 67 70)) refl
+    (odds (scanner Scanning None) (job 31 34 97 0 43) (side 46 84 52) (settings 1 58) (feed Busy Jammed 61 64) (ring 67 70)) refl
     ∷ that "Stop asks" (stopped (odd Finishing Loaded))
-    (box (scanner Finishing Timeout) (job 31 34 97 40 1) (side 46 49 52) (settings 55 58) (feed Loaded Jammed 61 64) (ring 67 70)) refl
+    (odds (scanner Finishing Timeout) (job 31 34 97 40 1) (side 46 49 52) (settings 55 58) (feed Loaded Jammed 61 64) (ring 67 70)) refl
     ∷ that "SideNumber plus 1" (numbered (odd Finishing Loaded))
-    (box (scanner Finishing Timeout) (job 31 34 97 40 43) (side 47 49 52) (settings 55 58) (feed Loaded Jammed 61 64) (ring 67 70)) refl
+    (odds (scanner Finishing Timeout) (job 31 34 97 40 43) (side 47 49 52) (settings 55 58) (feed Loaded Jammed 61 64) (ring 67 70)) refl
     ∷ that "the scanner becomes Erred, Jammed" (faulted (odd Finishing Loaded))
-    (box (scanner Erred Jammed) (job 31 34 97 40 43) (side 46 49 52) (settings 55 58) (feed Loaded Jammed 61 64) (ring 67 70)) refl
+    (odds (scanner Erred Jammed) (job 31 34 97 40 43) (side 46 49 52) (settings 55 58) (feed Loaded Jammed 61 64) (ring 67 70)) refl
     ∷ that "713 gives Pending" (waited (odd Finishing Loaded))
-    (box (scanner Pending Timeout) (job 31 34 97 40 43) (side 46 49 52) (settings 55 58) (feed Loaded Jammed 61 64) (ring 67 70)) refl
+    (odds (scanner Pending Timeout) (job 31 34 97 40 43) (side 46 49 52) (settings 55 58) (feed Loaded Jammed 61 64) (ring 67 70)) refl
     ∷ that "start moves on by k" (moved 5 100 (odd Finishing Loaded))
-    (box (scanner Finishing Timeout) (job 31 34 97 0 43) (side 46 49 52) (settings 55 58) (feed Loaded Jammed 61 64) (ring 72 65)) refl
+    (odds (scanner Finishing Timeout) (job 31 34 97 0 43) (side 46 49 52) (settings 55 58) (feed Loaded Jammed 61 64) (ring 72 65)) refl
     ∷ that "start moves on by k, round the ring's end" (moved 5 70 (odd Finishing Loaded))
-    (box (scanner Finishing Timeout) (job 31 34 97 0 43) (side 46 49 52) (settings 55 58) (feed Loaded Jammed 61 64) (ring 2 65)) refl
+    (odds (scanner Finishing Timeout) (job 31 34 97 0 43) (side 46 49 52) (settings 55 58) (feed Loaded Jammed 61 64) (ring 2 65)) refl
     ∷ that "bytes in behind the stored ones" (filled 5 (odd Scanning Loaded))
-    (box (scanner Scanning Timeout) (job 31 34 97 0 43) (side 46 49 52) (settings 55 58) (feed Loaded Jammed 61 64) (ring 67 75)) refl
+    (odds (scanner Scanning Timeout) (job 31 34 97 0 43) (side 46 49 52) (settings 55 58) (feed Loaded Jammed 61 64) (ring 67 75)) refl
     ∷ that "Side ended" (finished (odd Scanning Busy))
-    (box (scanner Finishing Timeout) (job 31 34 97 0 43) (side 46 48 52) (settings 55 58) (feed Unloaded Jammed 61 64) (ring 67 70)) refl
+    (odds (scanner Finishing Timeout) (job 31 34 97 0 43) (side 46 48 52) (settings 55 58) (feed Unloaded Jammed 61 64) (ring 67 70)) refl
     ∷ that "a jam" (caught (odd Scanning Busy))
-    (box (scanner Erred Jammed) (job 31 34 97 0 0) (side 46 49 52) (settings 55 58) (feed Stuck Jammed 61 1) (ring 0 0)) refl
+    (odds (scanner Erred Jammed) (job 31 34 97 0 0) (side 46 49 52) (settings 55 58) (feed Stuck Jammed 61 1) (ring 0 0)) refl
     ∷ that "Path 0" (pathed 0 (odd Scanning Busy))
-    (box (scanner Scanning Timeout) (job 31 34 97 40 43) (side 46 49 52) (settings 55 58) (feed Busy Jammed 61 0) (ring 67 70)) refl
+    (odds (scanner Scanning Timeout) (job 31 34 97 40 43) (side 46 49 52) (settings 55 58) (feed Busy Jammed 61 0) (ring 67 70)) refl
     ∷ that "a Tick" (ticked (odd Pending Loaded))
-    (box (scanner Pending Timeout) (job 31 34 97 41 43) (side 46 49 52) (settings 55 58) (feed Loaded Jammed 61 64) (ring 67 70)) refl
+    (odds (scanner Pending Timeout) (job 31 34 97 41 43) (side 46 49 52) (settings 55 58) (feed Loaded Jammed 61 64) (ring 67 70)) refl
     ∷ that "a Tick past the limit ends the job too, by our reading: no sound record is there"
-    (ticked (box (scanner Pending Timeout) (job 31 34 97 99 43) (side 46 49 52) (settings 55 58) (feed Loaded Jammed 61 64) (ring 67 70)))
-    (box (scanner Idle Timeout) (job 0 34 97 0 0) (side 1 0 52) (settings 55 58) (feed Loaded Jammed 61 64) (ring 0 0)) refl
+    (ticked (odds (scanner Pending Timeout) (job 31 34 97 99 43) (side 46 49 52) (settings 55 58) (feed Loaded Jammed 61 64) (ring 67 70)))
+    (odds (scanner Idle Timeout) (job 0 34 97 0 0) (side 1 0 52) (settings 55 58) (feed Loaded Jammed 61 64) (ring 0 0)) refl
     ∷ []
 
 -- the name and the job tests go by the job held, not by the last number given
@@ -1047,7 +1259,7 @@ feederMoves =
 abbrev pub twoJobs : List Turn
 twoJobs =
     turn (report (Tray 1))
-    (out 0 nothing (box (scanner Idle None) (job 0 0 60 0 0) (side 1 0 0) (settings 1 1) (feed Unloaded None 1 0) (ring 0 0)) five [])
+    (out 0 nothing (calledLast noName (box (scanner Idle None) (job 0 0 60 0 0) (side 1 0 0) (settings 1 1) (feed Unloaded None 1 0) (ring 0 0))) five [])
     ∷ turn (scan (StartScan 2 2 2 50))
     (out 0 (time 50) (box (scanner Scanning None) (job 1 1 50 0 0) (side 1 2 1) (settings 1 1) (feed Busy None 1 0) (ring 0 0)) five [])
     ∷ turn (report (Bytes (71 ∷ 72 ∷ 73 ∷ [])))
@@ -1076,10 +1288,11 @@ twoJobs =
     (box (scanner Finishing None) (job 1 1 50 0 1) (side 2 0 2) (settings 1 1) (feed Unloaded None 1 0) (ring 1 1))
     (83 ∷ 84 ∷ 73 ∷ 81 ∷ 82 ∷ []) (0xA5 ∷ 0x5A ∷ 0x06 ∷ 3 ∷ 81 ∷ 82 ∷ 83 ∷ 68 ∷ 69 ∷ []))
     ∷ turn (scan (Fetch J1-002 3 nine))
-    (out 0 (picture 1 true (84 ∷ [])) (box (scanner Idle None) (job 0 1 50 0 0) (side 1 0 2) (settings 1 1) (feed Unloaded None 1 0) (ring 0 0))
+    (out 0 (picture 1 true (84 ∷ []))
+    (calledLast K1-002 (box (scanner Idle None) (job 0 1 50 0 0) (side 1 0 2) (settings 1 1) (feed Unloaded None 1 0) (ring 0 0)))
     (83 ∷ 84 ∷ 73 ∷ 81 ∷ 82 ∷ []) (0xA5 ∷ 0x5A ∷ 0x06 ∷ 1 ∷ 84 ∷ 66 ∷ 67 ∷ 68 ∷ 69 ∷ []))
     ∷ turn (feeder (Load 0))
-    (out 0 nothing (box (scanner Idle None) (job 0 1 50 0 0) (side 1 0 2) (settings 1 1) (feed Loaded None 1 0) (ring 0 0))
+    (out 0 nothing (calledLast K1-002 (box (scanner Idle None) (job 0 1 50 0 0) (side 1 0 2) (settings 1 1) (feed Loaded None 1 0) (ring 0 0)))
     (83 ∷ 84 ∷ 73 ∷ 81 ∷ 82 ∷ []) [])
     ∷ turn (scan (StartScan 1 minusOne 0 0))
     (out 0 (time 60) (box (scanner Scanning None) (job 2 2 60 0 0) (side 1 minusOne 3) (settings 1 0) (feed Busy None 1 0) (ring 0 0))
@@ -1094,13 +1307,13 @@ twoJobs =
     (out 0 nothing (box (scanner Finishing None) (job 2 2 60 0 0) (side 1 minusOne 3) (settings 1 0) (feed Unloaded None 1 0) (ring 0 1))
     (91 ∷ 84 ∷ 73 ∷ 81 ∷ 82 ∷ []) [])
     ∷ turn (scan (Fetch J2 9 nine))
-    (out 0 (picture 1 true (91 ∷ [])) (box (scanner Scanning None) (job 2 2 60 0 0) (side 2 minusOne 4) (settings 1 0) (feed Busy None 1 0) (ring 1 0))
+    (out 0 (picture 1 true (91 ∷ [])) (box (scanner Scanning None) (job 2 2 60 0 0) (side 2 minusOne 3) (settings 1 0) (feed Busy None 1 0) (ring 1 0))
     (91 ∷ 84 ∷ 73 ∷ 81 ∷ 82 ∷ []) (0xA5 ∷ 0x5A ∷ 0x06 ∷ 1 ∷ 91 ∷ 66 ∷ 67 ∷ 68 ∷ 69 ∷ []))
     ∷ turn (report (Path 1))
-    (out 0 nothing (box (scanner Erred Jammed) (job 2 2 60 0 0) (side 2 minusOne 4) (settings 1 0) (feed Stuck Jammed 1 1) (ring 0 0))
+    (out 0 nothing (box (scanner Erred Jammed) (job 2 2 60 0 0) (side 2 minusOne 3) (settings 1 0) (feed Stuck Jammed 1 1) (ring 0 0))
     (91 ∷ 84 ∷ 73 ∷ 81 ∷ 82 ∷ []) [])
     ∷ turn (scan (Abort 2))
-    (out 0 nothing (box (scanner Idle None) (job 0 2 60 0 0) (side 1 0 4) (settings 1 0) (feed Stuck Jammed 1 1) (ring 0 0))
+    (out 0 nothing (box (scanner Idle None) (job 0 2 60 0 0) (side 1 0 3) (settings 1 0) (feed Stuck Jammed 1 1) (ring 0 0))
     (91 ∷ 84 ∷ 73 ∷ 81 ∷ 82 ∷ []) [])
     ∷ []
 
@@ -1111,7 +1324,8 @@ zeros = replicate 62 0
 abbrev pub worked : List Turn
 worked =
     turn (report (Tray 1))
-    (out 0 nothing (box (scanner Idle None) (job 0 0 60 0 0) (side 1 0 0) (settings 1 1) (feed Unloaded None 1 0) (ring 0 0)) (0 ∷ 0 ∷ zeros) [])
+    (out 0 nothing (calledLast noName (box (scanner Idle None) (job 0 0 60 0 0) (side 1 0 0) (settings 1 1) (feed Unloaded None 1 0) (ring 0 0)))
+    (0 ∷ 0 ∷ zeros) [])
     ∷ turn (scan (StartScan 2 1 2 10))
     (out 0 (time 10) (box (scanner Scanning None) (job 1 1 10 0 0) (side 1 1 1) (settings 1 1) (feed Busy None 1 0) (ring 0 0)) (0 ∷ 0 ∷ zeros) [])
     ∷ turn (report (Bytes (65 ∷ 66 ∷ [])))
@@ -1120,7 +1334,7 @@ worked =
     (out 0 nothing (box (scanner Finishing None) (job 1 1 10 0 0) (side 1 0 1) (settings 1 1) (feed Unloaded None 1 0) (ring 0 2)) (65 ∷ 66 ∷ zeros) [])
     ∷ turn (scan (Fetch J1-001 8 (replicate 259 0)))
     (out 0 (picture 2 true (65 ∷ 66 ∷ []))
-    (box (scanner Pending None) (job 1 1 10 0 0) (side 2 0 1) (settings 1 1) (feed Unloaded None 1 0) (ring 2 0))
+    (box (scanner Pending None) (job 1 1 10 0 0) (side 2 0 2) (settings 1 1) (feed Unloaded None 1 0) (ring 2 0))
     (65 ∷ 66 ∷ zeros) (0xA5 ∷ 0x5A ∷ 0x06 ∷ 2 ∷ 65 ∷ 66 ∷ replicate 253 0))
     ∷ []
 

@@ -1,6 +1,6 @@
 -- A list of calls as a watcher sees it: what happened, newest first. The seconds, the granted time, the job's ordinal, whose
--- the waiting bytes are and whether a stop is asked come from that alone; the watcher never reads quiet, granted, the stop
--- mark or the ring.
+-- the waiting bytes are, whether a stop is asked and which name was the last come from that alone; the watcher never reads
+-- quiet, granted, the stop mark, the ring, DestinationID or the last name.
 use Prim.Native.Nat.{ℕ, suc}
 use mathlib.Core.Bool.{Bool, true, false, not, _&&_, _||_, cond}
 use mathlib.Core.List.{List, [], _∷_, _++_, map}
@@ -9,6 +9,7 @@ use lib.Dec.{eqb, leb}
 use lib.ListN.{length, drop}
 use Rattle.rules.specs.declared.Scan.{Scan}
 use Rattle.rules.specs.Record.{faultTime, usualTime, idle, scanning, erred}
+use Rattle.rules.specs.Name.{name, same}
 use Rattle.rules.specs.Calls.{ScanCall, StartScan, Start, Stop, Abort, GetDestination, Fetch, GetState, GetSideInformation, Report, Bytes, SideEnded}
 use Rattle.rules.specs.Calls.{Tray, Path, Tick, Call, scan, feeder, report, State, Values, nothing, time, destination, picture, state, sides, feeding}
 use Rattle.rules.specs.Calls.{mode, stored, Outcome}
@@ -200,6 +201,20 @@ asks (report c) o = false
 abbrev pub stopAsked : List Event → Bool
 stopAsked [] = false
 stopAsked (e ∷ es) = not (begins (e .call) (e .before) (e .outcome)) && (asks (e .call) (e .outcome) || stopAsked es)
+
+-- ---- names: the last that any job held; none before the first job
+abbrev pub lastName : List Event → List ℕ
+lastName [] = []
+lastName (e ∷ es) = cond (idle (scanOf (e .outcome .state))) (lastName es) (name (e .outcome .state .box))
+
+-- a change: a job is held after the call, and its name differs from the last name that any job held before it
+abbrev pub changes : List Event → Outcome → Bool
+changes es o = not (idle (scanOf (o .state))) && not (same (name (o .state .box)) (lastName es))
+
+-- how many there were
+abbrev pub changed : List Event → ℕ
+changed [] = 0
+changed (e ∷ es) = cond (changes es (e .outcome)) (suc (changed es)) (changed es)
 
 -- ---- a box, and what has happened to it
 pub record World : Type 0 where

@@ -12,9 +12,10 @@ use Rattle.rules.specs.Calls.{StartScan, Start, Stop, Abort, GetDestinat
 use Rattle.rules.specs.Calls.{GetFeederState, GetFeederMode, Bytes, SideEnded, Tray, Path, Tick, Call, scan, feeder, report, State, Values, nothing}
 use Rattle.rules.specs.Calls.{time, destination, picture, state, sides, feeding, mode, stored, Outcome}
 use Rattle.rules.specs.Watch.{Event, countIn, bytesIn, timeIn, seconds, timeAnswered, ordinal, Tagged, byteOf, bytesAccepted, waiting, World, after, live}
-use Rattle.rules.specs.Watch.{lived, told as toldTo, begins, stopAsked, holder, dueSecond}
+use Rattle.rules.specs.Watch.{lived, told as toldTo, begins, stopAsked, lastName, changed, holder, dueSecond}
+use Rattle.rules.specs.Name.{nameOf}
 use Rattle.rules.specs.Cases.{Case, that, final, tickings, at, resting, holding, drawing, copying, draining, faulty, out, done, taking, box, scanner, job}
-use Rattle.rules.specs.Cases.{side, settings, feed, ring, five, nine, J41, J42}
+use Rattle.rules.specs.Cases.{side, settings, feed, ring, noName, calledLast, five, nine, J41, J42, J42-001, J42-002, J43-001}
 
 -- a box that is watched from now on, over these calls
 abbrev pub watched : State → List Call → World
@@ -262,13 +263,13 @@ readings =
 
 -- ---- what has happened, newest first; and what was told of it, oldest first, before others
 abbrev pub trayOut : Outcome
-trayOut = done (box (scanner Idle None) (job 0 0 60 0 0) (side 1 0 0) (settings 1 1) (feed Unloaded None 1 0) (ring 0 0))
+trayOut = done (calledLast noName (box (scanner Idle None) (job 0 0 60 0 0) (side 1 0 0) (settings 1 1) (feed Unloaded None 1 0) (ring 0 0)))
 
 abbrev pub startOut : Outcome
-startOut = taking (time 123) (box (scanner Pending None) (job 1 1 123 0 0) (side 1 0 0) (settings 1 0) (feed Unloaded None 1 0) (ring 0 0))
+startOut = taking (time 123) (box (scanner Pending None) (job 1 1 123 0 0) (side 1 0 1) (settings 1 0) (feed Unloaded None 1 0) (ring 0 0))
 
 abbrev pub stateOut : Outcome
-stateOut = taking (state Pending None) (box (scanner Pending None) (job 1 1 123 0 0) (side 1 0 0) (settings 1 0) (feed Unloaded None 1 0) (ring 0 0))
+stateOut = taking (state Pending None) (box (scanner Pending None) (job 1 1 123 0 0) (side 1 0 1) (settings 1 0) (feed Unloaded None 1 0) (ring 0 0))
 
 abbrev pub history : List Event
 history =
@@ -281,10 +282,43 @@ pub worlds : List (Case World)
 unfolding final live after
 worlds =
     that "a fresh box, and nothing has happened" (lived five [])
-    (record { now = at (box (scanner Idle None) (job 0 0 60 0 0) (side 1 0 0) (settings 1 1) (feed Unloaded None 0 0) (ring 0 0)); past = [] }) refl
+    (record {
+      now = at (calledLast noName (box (scanner Idle None) (job 0 0 60 0 0) (side 1 0 0) (settings 1 1) (feed Unloaded None 0 0) (ring 0 0)));
+      past = [];
+    }) refl
     ∷ that "three calls to a fresh box" (lived five (report (Tray 1) ∷ scan (StartScan 1 0 0 123) ∷ scan GetState ∷ []))
     (record { now = stateOut .state; past = history }) refl
     ∷ []
 
 pub tellings : List (Case (List Outcome))
 tellings = that "what was taking" (toldTo history (stateOut ∷ [])) (trayOut ∷ startOut ∷ stateOut ∷ stateOut ∷ []) refl ∷ []
+
+-- ---- names: the last that any job held, how many changes there were, and DestinationID, which starts at 90 where the watcher starts at 0
+abbrev pub namedIn : World → List ℕ × ℕ × ℕ
+namedIn w = (lastName (w .past), changed (w .past), w .now .box .side .destination)
+
+abbrev pub namedOver : (says : String) (s : State) (cs : List Call) (due : List ℕ × ℕ × ℕ) → namedIn (watched s cs) ≡ due → Case (List ℕ × ℕ × ℕ)
+namedOver says s cs due e = that says (namedIn (watched s cs)) due e
+
+pub namings : List (Case (List ℕ × ℕ × ℕ))
+unfolding final live after nameOf
+namings =
+    namedOver "nothing has happened" (resting (settings 1 0) (feed Loaded Jammed 1 0)) [] ([], 0, 90) refl
+    ∷ namedOver "nobody was held" (resting (settings 1 0) (feed Loaded Jammed 1 0)) (report Tick ∷ scan (Stop 41) ∷ []) ([], 0, 90) refl
+    ∷ namedOver "StartScan, SideCount 0" (resting (settings 1 0) (feed Loaded Jammed 1 0)) (scan (StartScan 0 0 1 123) ∷ []) (J42-001, 1, 91) refl
+    ∷ namedOver "the name stays" (resting (settings 1 0) (feed Loaded Jammed 1 0)) (scan (StartScan 0 0 1 123) ∷ report Tick ∷ scan GetState ∷ [])
+    (J42-001, 1, 91) refl
+    ∷ namedOver "it is remembered through Idle" (resting (settings 1 0) (feed Loaded Jammed 1 0))
+    (scan (StartScan 0 0 1 123) ∷ scan (Abort 42) ∷ report Tick ∷ []) (J42-001, 1, 91) refl
+    ∷ namedOver "a refused StartScan is none" (resting (settings 1 0) (feed Loaded Jammed 1 0)) (scan (StartScan 0 2 1 123) ∷ []) ([], 0, 90) refl
+    ∷ namedOver "Start, and a side begins: no change" (resting (settings 1 0) (feed Loaded Jammed 1 0))
+    (scan (StartScan 0 0 0 123) ∷ scan (Start 42 0 1) ∷ []) (J42, 1, 91) refl
+    ∷ namedOver "a drain step with Append 0: no change" (resting (settings 1 0) (feed Loaded Jammed 1 0))
+    (scan (StartScan 0 1 0 123) ∷ report SideEnded ∷ []) (J42, 1, 91) refl
+    ∷ namedOver "a drain step with Append 1: a change" (resting (settings 1 0) (feed Loaded Jammed 1 0))
+    (scan (StartScan 0 1 1 123) ∷ report SideEnded ∷ []) (J42-002, 2, 92) refl
+    ∷ namedOver "a drain step that ends the job: none" (resting (settings 1 0) (feed Loaded Jammed 1 0))
+    (scan (StartScan 0 1 1 123) ∷ scan (Stop 42) ∷ report SideEnded ∷ []) (J42-001, 1, 91) refl
+    ∷ namedOver "the next job" (resting (settings 1 0) (feed Loaded Jammed 1 0))
+    (scan (StartScan 0 0 1 123) ∷ scan (Abort 42) ∷ scan (StartScan 0 0 1 123) ∷ []) (J43-001, 2, 92) refl
+    ∷ []

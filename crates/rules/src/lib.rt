@@ -88,6 +88,19 @@ pub struct Fed {
     pub number: u16,
 }
 
+// A name in eighteen bytes, unused ones 0, and its length: three numbers, of eight, eight and two bytes, the first byte highest.
+pub struct Named {
+    pub first: u64,
+    pub second: u64,
+    pub third: u16,
+    pub len: u8,
+}
+
+// The last name that any job held.
+pub struct Names {
+    pub last: Named,
+}
+
 pub struct Record {
     pub scanner: Scanner,
     pub job: Job,
@@ -95,6 +108,7 @@ pub struct Record {
     pub settings: Settings,
     pub feeder: Feeder,
     pub ring: Ring,
+    pub names: Names,
 }
 
 impl Feeder {
@@ -206,6 +220,14 @@ impl Record {
             ring: Ring {
                 start: 0,
                 stored: 0,
+            },
+            names: Names {
+                last: Named {
+                    first: 0,
+                    second: 0,
+                    third: 0,
+                    len: 0,
+                },
             },
         }
     }

@@ -12,7 +12,7 @@ ghost use lib.Dec.{eqb, leb};
 ghost use lib.ListN.{length};
 ghost use Rattle.rules.specs.Record.{endless, counted, on, sound};
 ghost use Rattle.rules.specs.Feeder.{jamStops, sheetStops};
-ghost use Rattle.rules.specs.Moves.{started};
+ghost use Rattle.rules.specs.Moves.{announced, started};
 ghost use Rattle.rules.specs.Calls.{scan, StartScan, Start};
 ghost use Rattle.rules.specs.Machine.{listed, step};
 ghost use Rattle.answers.specs.Told.{stateOf, gave};
@@ -33,13 +33,13 @@ fn all_listed(append: u8, from: u8, source: u8, count: u32) -> bool
     (append <= Settings::DEVICE) & are_listed(from, source, count)
 }
 
-// Where a side is to begin from the feeder, Erred is 711 and no sheet is 713; otherwise the record `n` is started, and the call
-// tells its answer.
-fn begin(r: Record, n: Record, source: u8, count: u32, answer: Answer) -> After
+// Where a side is to begin from the feeder, Erred is 711 and no sheet is 713; otherwise the record `n` is started, its name announced
+// where it opens a job, and the call tells its answer.
+fn begin(r: Record, n: Record, source: u8, count: u32, opens: bool, answer: Answer) -> After
     ensures { λ a. ⌜ a ≡
         cond (not (eqb count 0) && jamStops source (r .feeder)) (record { next = r; answer = Answer.Refused Why.FeederErred })
         (cond (not (eqb count 0) && sheetStops source (r .feeder)) (record { next = r; answer = Answer.Refused Why.NoSheet })
-        (record { next = started source count n; answer = answer })) ⌝ }
+        (record { next = started source count (cond opens (announced n) n); answer = answer })) ⌝ }
 {
     let f = r.feeder;
     let begins = !(count == 0);
@@ -50,6 +50,10 @@ fn begin(r: Record, n: Record, source: u8, count: u32, answer: Answer) -> After
     }
     if begins & empty {
         return After::refused(Why::NoSheet, r);
+    }
+    if opens {
+        let named = moves::announce(n);
+        return After::told(answer, jobs::start(source, count, named));
     }
     After::told(answer, jobs::start(source, count, n))
 }
@@ -77,7 +81,14 @@ pub fn start_scan_sound(
         return After::refused(Why::WrongState, r);
     }
     let n = jobs::give(sides::settle(append, t.append), asked, r);
-    begin(r, n, source, count, Answer::Time(n.job.granted.seconds))
+    begin(
+        r,
+        n,
+        source,
+        count,
+        true,
+        Answer::Time(n.job.granted.seconds),
+    )
 }
 
 pub fn start_scan(r: Record, ring: &[u8], from: u8, count: u32, append: u8, asked: u32) -> After
@@ -105,7 +116,7 @@ pub fn start_sound(r: Record, ring: &[u8], job: u32, from: u8, count: u32) -> Af
     if !jobs::waits(s) {
         return After::refused(Why::WrongState, r);
     }
-    begin(r, r, source, count, Answer::Done)
+    begin(r, r, source, count, false, Answer::Done)
 }
 
 pub fn start(r: Record, ring: &[u8], job: u32, from: u8, count: u32) -> After

@@ -3,10 +3,11 @@ use rules::Input;
 use rules::Record;
 use rules::Ring;
 ghost use mathlib.Core.Path.{_≡_};
-ghost use mathlib.Core.Bool.{cond};
+ghost use mathlib.Core.Bool.{true, cond};
 ghost use Prim.Native.Nat.{_+_};
 ghost use lib.Dec.{leb};
 ghost use Rattle.rules.specs.Moves.{finished, sideEnded, feeds, caught, pathed, timedOut, quietAt, ticked};
+ghost use Rattle.moves.specs.Holds.{isNamed};
 
 // Busy becomes Unloaded, SideCount falls, Finishing; a sign of life.
 fn finish(r: Record) -> Record
@@ -19,9 +20,9 @@ fn finish(r: Record) -> Record
     moves::stand(rules::Scan::Finishing, n)
 }
 
-// If the ring is empty the drain step follows at once.
+// If the ring is empty the drain step follows at once; of a record whose last name is its own.
 pub fn end_side(r: Record) -> Record
-    ensures { λ n. ⌜ n ≡ sideEnded r ⌝ }
+    ensures { λ n. ⌜ (isNamed r ≡ true → n ≡ sideEnded r) ⌝ }
 {
     let g = r.ring;
     let n = finish(r);

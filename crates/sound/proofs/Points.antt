@@ -14,8 +14,8 @@ use Rattle.rules.specs.declared.Side.{Side}
 use Rattle.rules.specs.declared.Ring.{Ring}
 use Rattle.rules.specs.declared.Settings.{Settings}
 use Rattle.rules.specs.declared.Record.{Record}
-use Rattle.rules.specs.Record.{every, idle, scanning, finishing, busy, on, marked, counted, lastSide, mostRing, sound}
-use Rattle.rules.specs.Record.{idlePoints, heldPoints, ringPoints, feederPoints, markPoints}
+use Rattle.rules.specs.Record.{every, idle, scanning, finishing, busy, on, marked, implies, counted, lastSide, mostRing, sound}
+use Rattle.rules.specs.Record.{idlePoints, heldPoints, ringPoints, feederPoints, markPoints, namePoints}
 
 apart : (s : Scan) → scanning s ≡ true → finishing s ≡ false
 apart Scan.Idle e = refl
@@ -75,7 +75,13 @@ pub no-marks : (s : Scan) (t : Settings) (stop : ℕ) (f : Feeder) → (eqb stop
 no-marks s t stop f e =
     simp (eqb-true stop 0 (and-l (eqb stop 0) (eqb (f .path) 0) e), eqb-true (f .path) 0 (and-r (eqb stop 0) (eqb (f .path) 0) e), and-true)
 
--- ---- the five points, each tested by `t`: one that fails settles it, whatever the others say; where the first four hold, the last
+pub named-in : (s : Scan) (t : Bool) → idle s ≡ true → true ≡ implies (not (idle s)) t
+named-in s t e = rw e refl
+
+pub named-out : (s : Scan) {b t : Bool} → idle s ≡ false → b ≡ t → b ≡ implies (not (idle s)) t
+named-out s i e = rw i e
+
+-- ---- the six points, each tested by `t`: one that fails settles it, whatever the others say; where the first five hold, the last
 -- decides
 module _ (r : Record) (n : ℕ) where
   pub idle-fails : {t : Bool} → t ≡ every (idlePoints (r .scanner .state) (r .job) (r .side)) → not t ≡ true → false ≡ sound r n
@@ -95,12 +101,18 @@ module _ (r : Record) (n : ℕ) where
   unfolding sound
   feeder-fails e h = rw (stopped-at _ _ e h, and-false)
 
-  pub marks-decide : {i h g f m : Bool}
+  pub marks-fail : {t : Bool} → t ≡ every (markPoints (r .scanner .state) (r .settings) (r .job .stop) (r .feeder)) → not t ≡ true → false ≡ sound r n
+  unfolding sound
+  marks-fail e h = rw (stopped-at _ _ e h, and-false)
+
+  pub name-decides : {i h g f m t : Bool}
       → i ≡ every (idlePoints (r .scanner .state) (r .job) (r .side)) → not i ≡ false
       → h ≡ every (heldPoints (r .scanner .state) (r .job) (r .side)) → not h ≡ false
       → g ≡ every (ringPoints (r .scanner .state) (r .ring) n) → not g ≡ false
       → f ≡ every (feederPoints (r .scanner .state) (r .feeder .state) (r .settings) (r .side)) → not f ≡ false
-      → m ≡ every (markPoints (r .scanner .state) (r .settings) (r .job .stop) (r .feeder))
-      → m ≡ sound r n
+      → m ≡ every (markPoints (r .scanner .state) (r .settings) (r .job .stop) (r .feeder)) → not m ≡ false
+      → t ≡ every (namePoints r)
+      → t ≡ sound r n
   unfolding sound
-  marks-decide ei ni eh nh eg ng ef nf em = rw (went-on _ _ ei ni, went-on _ _ eh nh, went-on _ _ eg ng, went-on _ _ ef nf) em
+  name-decides ei ni eh nh eg ng ef nf em nm en =
+      rw (went-on _ _ ei ni, went-on _ _ eh nh, went-on _ _ eg ng, went-on _ _ ef nf, went-on _ _ em nm) en

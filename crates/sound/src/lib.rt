@@ -1,17 +1,20 @@
-// When a record is sound with a lent ring: the requirements' five points, each over the parts it speaks of.
+// When a record is sound with a lent ring: the requirements' five points, each over the parts it speaks of, and the last name's.
 use rules::Feed;
 use rules::Feeder;
 use rules::Granted;
 use rules::Job;
+use rules::Named;
 use rules::Record;
 use rules::Ring;
 use rules::Scan;
 use rules::Settings;
 use rules::Side;
 ghost use mathlib.Core.Path.{_≡_};
+ghost use mathlib.Core.Bool.{not};
 ghost use Prim.Native.Nat.{ℕ};
 ghost use lib.ListN.{length};
-ghost use Rattle.rules.specs.Record.{every, idlePoints, heldPoints, ringPoints, feederPoints, markPoints, sound};
+ghost use Rattle.rules.specs.Record.{every, idlePoints, heldPoints, ringPoints, feederPoints, markPoints, idle, implies, sound};
+ghost use Rattle.rules.specs.Name.{nameOf, spelt, alike};
 
 // Idle exactly when job is 0, and what holds then.
 fn idle_sound(s: Scan, j: Job, d: Side) -> bool
@@ -89,6 +92,16 @@ fn mark_sound(s: Scan, t: Settings, stop: u8, f: Feeder) -> bool
         & (!(stop == 1) | (sc | fi))
 }
 
+// While a job is held the last name is that job's.
+fn name_sound(s: Scan, job: u32, append: u8, number: u16, last: Named) -> bool
+    ensures { λ b. ⌜ b ≡ implies (not (idle s)) (alike last (spelt (nameOf job append number))) ⌝ }
+{
+    if words::is_idle(s) {
+        return true;
+    }
+    name::is_alike(last, name::kept(job, append, number))
+}
+
 // The record is sound with a ring of so many bytes.
 pub fn is_sound(r: Record, len: usize) -> bool
     ensures { λ b. ⌜ b ≡ sound r len ⌝ }
@@ -102,6 +115,8 @@ pub fn is_sound(r: Record, len: usize) -> bool
     let x = f.state;
     let g = r.ring;
     let stop = j.stop;
+    let n = r.names;
+    let last = n.last;
     if !idle_sound(s, j, d) {
         return false;
     }
@@ -114,7 +129,10 @@ pub fn is_sound(r: Record, len: usize) -> bool
     if !feeder_sound(s, x, t, d) {
         return false;
     }
-    mark_sound(s, t, stop, f)
+    if !mark_sound(s, t, stop, f) {
+        return false;
+    }
+    name_sound(s, j.held, t.append, d.number, last)
 }
 
 // The record is sound with the lent ring.

@@ -19,7 +19,8 @@ use Rattle.rules.specs.Moves.{withRing, withFeeder, quietAt}
 use Rattle.rules.proofs.Sound.{holds, all}
 use Rattle.stored.specs.Stored.{scanNumber, feedNumber, failureNumber, scanAt, feedAt, failureAt, numberAt, from, written, wordCount, version, kept}
 use Rattle.stored.specs.Stored.{scannerAt, scannerKept, jobAt, jobKept, jobFits, sideAt, sideKept, sideFits, settingsAt, settingsKept}
-use Rattle.stored.specs.Stored.{settingsFits, feederAt, feederKept, feederFits, ringAt, ringKept, fitting, allFit, recorded, wide16, heardIn, fedIn}
+use Rattle.stored.specs.Stored.{settingsFits, feederAt, feederKept, feederFits, ringAt, ringKept, wide16, heardIn, fedIn}
+use Rattle.stored.specs.Stored.{namesAt, namesKept, namesFits, fitting, allFit, recorded}
 use Rattle.stored.proofs.Widths.{scanner-below, feeder-below, scanner-fits, quiet-fits}
 use Rattle.stored.proofs.Rows.{row-whole}
 
@@ -66,22 +67,23 @@ failure-again Failure.Timeout = refl
 -- ---- part by part
 module _ (r : Record) where
   -- behind what is written, the next part
-  pub row-kept : (ws : List ℕ) {a b c d e f : List ℕ} → length ws ≡ wordCount
+  pub row-kept : (ws : List ℕ) {a b c d e f g : List ℕ} → length ws ≡ wordCount
       → a ≡ written scannerAt (scannerKept (r .scanner)) (set ws 0 version)
       → b ≡ written jobAt (jobKept (r .job)) a
       → c ≡ written sideAt (sideKept (r .side)) b
       → d ≡ written settingsAt (settingsKept (r .settings)) c
       → e ≡ written feederAt (feederKept (r .feeder)) d
       → f ≡ written ringAt (ringKept (r .ring)) e
-      → f ≡ kept r
+      → g ≡ written namesAt (namesKept (r .names)) f
+      → g ≡ kept r
   unfolding kept
-  row-kept ws l p q s t u v = v ∙ rw (u, t, s, q, p) (row-whole (kept r) ws l)
+  row-kept ws l p q s t u v x = x ∙ rw (v, u, t, s, q, p) (row-whole (kept r) ws l)
 
   pub kept-fits : every (jobFits (numberAt (jobKept (r .job)))) ≡ true → every (sideFits (numberAt (sideKept (r .side)))) ≡ true
       → every (settingsFits (numberAt (settingsKept (r .settings)))) ≡ true → every (feederFits (numberAt (feederKept (r .feeder)))) ≡ true
-      → allFit (kept r) ≡ true
+      → every (namesFits (numberAt (namesKept (r .names)))) ≡ true → allFit (kept r) ≡ true
   unfolding kept allFit
-  kept-fits j d t f = all (fitting (kept r)) (refl, (scanner-fits (r .scanner), (j, (d, (t, (f, tt))))))
+  kept-fits j d t f m = all (fitting (kept r)) (refl, (scanner-fits (r .scanner), (j, (d, (t, (f, (m, tt)))))))
 
   pub recorded-kept : recorded (kept r) ≡ r
   unfolding kept recorded
@@ -109,7 +111,7 @@ module _ (r : Record) where
     unfolding kept allFit
     fed-fits x h =
         let f = holds (fitting (kept r)) fit in
-        all (fitting (kept (withFeeder x r))) (f .0, (f .1 .0, (f .1 .1 .0, (f .1 .1 .1 .0, (f .1 .1 .1 .1 .0, (h, tt))))))
+        all (fitting (kept (withFeeder x r))) (f .0, (f .1 .0, (f .1 .1 .0, (f .1 .1 .1 .0, (f .1 .1 .1 .1 .0, (h, (f .1 .1 .1 .1 .1 .1 .0, tt)))))))
 
 -- ---- a list of known length, place by place
 places : ℕ → ℕ → List ℕ → List ℕ

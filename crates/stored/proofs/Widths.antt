@@ -1,10 +1,10 @@
 -- What fitting says of the numbers of each part, and that the numbers of a part fit it.
-use Prim.Native.Nat.{ℕ, _<_}
+use Prim.Native.Nat.{ℕ, _<_, _≤_}
 use mathlib.Core.Path.{_≡_, refl}
 use mathlib.Core.Bool.{true}
 use mathlib.Core.List.{[], _∷_}
 use native.Mathlib.Omega.{arith}
-use borrow.Author.Tests.{ltb-true, lt-ltb}
+use borrow.Author.Tests.{ltb-true, lt-ltb, leb-true, le-leb}
 use Rattle.rules.specs.declared.Job.{Job}
 use Rattle.rules.specs.declared.Side.{Side}
 use Rattle.rules.specs.declared.Settings.{Settings}
@@ -13,10 +13,12 @@ use Rattle.rules.specs.declared.Feed.{Feed}
 use Rattle.rules.specs.declared.Failure.{Failure}
 use Rattle.rules.specs.declared.Scanner.{Scanner}
 use Rattle.rules.specs.declared.Feeder.{Feeder}
+use Rattle.rules.specs.declared.Names.{Names}
+use Rattle.rules.specs.Name.{nameRoom}
 use Rattle.rules.specs.Record.{every}
 use Rattle.rules.proofs.Sound.{holds, all}
 use Rattle.stored.specs.Stored.{scanNumber, feedNumber, failureNumber, numberAt, wide32, wide16, wide8, scannerKept, scannerFits, jobKept, jobFits}
-use Rattle.stored.specs.Stored.{sideKept, sideFits, settingsKept, settingsFits, feederKept, feederFits}
+use Rattle.stored.specs.Stored.{sideKept, sideFits, settingsKept, settingsFits, feederKept, feederFits, namesKept, namesFits}
 
 -- ---- numbers that fit
 pub job-below : (n : ℕ → ℕ) → every (jobFits n) ≡ true → (n 0 < wide32) × (n 1 < wide32) × (n 2 < wide16) × (n 3 < wide16) × (n 4 < wide8)
@@ -37,6 +39,9 @@ pub feeder-below : (n : ℕ → ℕ) → every (feederFits n) ≡ true → (n 0 
 feeder-below n e =
     let h = holds (feederFits n) e in
     (ltb-true _ _ (h .0), ltb-true _ _ (h .1 .0), ltb-true _ _ (h .1 .1 .0), ltb-true _ _ (h .1 .1 .1 .0))
+
+pub names-below : (n : ℕ → ℕ) → every (namesFits n) ≡ true → (n 2 < wide16) × (n 3 ≤ nameRoom)
+names-below n e = let h = holds (namesFits n) e in (ltb-true _ _ (h .0), leb-true _ _ (h .1 .0))
 
 -- ---- states and codes fit
 scan-fits : (s : Scan) → scanNumber s < 5
@@ -104,3 +109,7 @@ feeder-each f p q r s = (
   all (feederFits (numberAt (feederKept f)))
       (lt-ltb _ _ (feed-fits (f .state)), (lt-ltb _ _ (failure-fits (f .failure)), (lt-ltb _ _ (below-as r), (lt-ltb _ _ (below-as s), tt)))),
 )
+
+pub names-each : (m : Names) {a b : ℕ} → (a ≡ m .last .third) × (a < wide16) → b ≡ m .last .len
+    → (m .last .first ∷ m .last .second ∷ a ∷ b ∷ [] ≡ namesKept m) × (m .last .len ≤ nameRoom → every (namesFits (numberAt (namesKept m))) ≡ true)
+names-each m p q = (rw (p .0, q) refl, λ l. all (namesFits (numberAt (namesKept m))) (lt-ltb _ _ (below-as p), (le-leb _ _ l, tt)))

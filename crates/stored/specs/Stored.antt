@@ -2,7 +2,7 @@
 use Prim.Native.Nat.{ℕ, _+_}
 use mathlib.Core.Bool.{Bool, _&&_, cond}
 use mathlib.Core.List.{List, [], _∷_, _++_}
-use lib.Dec.{ltb, eqb}
+use lib.Dec.{leb, ltb, eqb}
 use lib.ListN.{getD, set}
 use Rattle.rules.specs.declared.Scan.{Scan}
 use Rattle.rules.specs.declared.Feed.{Feed}
@@ -13,7 +13,9 @@ use Rattle.rules.specs.declared.Side.{Side}
 use Rattle.rules.specs.declared.Settings.{Settings}
 use Rattle.rules.specs.declared.Feeder.{Feeder}
 use Rattle.rules.specs.declared.Ring.{Ring}
+use Rattle.rules.specs.declared.Names.{Names}
 use Rattle.rules.specs.declared.Record.{Record}
+use Rattle.rules.specs.Name.{nameRoom}
 use Rattle.rules.specs.Record.{every, sound}
 
 -- ---- states and codes as numbers, in the paper's order
@@ -157,6 +159,22 @@ ringKept g = g .start ∷ g .stored ∷ []
 abbrev pub ringIn : (ℕ → ℕ) → Ring
 ringIn n = record { start = n 0; stored = n 1 }
 
+-- the last name: eight bytes, eight and two, the first two as wide as a number; its length is at most eighteen
+abbrev pub namesLength : ℕ
+namesLength = 4
+
+abbrev pub namesAt : ℕ
+namesAt = ringAt + ringLength
+
+abbrev pub namesKept : Names → List ℕ
+namesKept m = m .last .first ∷ m .last .second ∷ m .last .third ∷ m .last .len ∷ []
+
+abbrev pub namesFits : (ℕ → ℕ) → List Bool
+namesFits n = ltb (n 2) wide16 ∷ leb (n 3) nameRoom ∷ []
+
+abbrev pub namesIn : (ℕ → ℕ) → Names
+namesIn n = record { last = record { first = n 0; second = n 1; third = n 2; len = n 3 } }
+
 -- ---- a few numbers written, in the place of those that were there
 abbrev pub quietPlace : ℕ
 quietPlace = jobAt + 3
@@ -171,11 +189,11 @@ fedIn f ws = written feederAt (feederKept f) ws
 
 -- ---- the whole
 abbrev pub version : ℕ
-version = 1
+version = 2
 
 -- how many numbers there are
 abbrev pub wordCount : ℕ
-wordCount = ringAt + ringLength
+wordCount = namesAt + namesLength
 
 unfoldable pub kept : Record → List ℕ
 kept r =
@@ -186,6 +204,7 @@ kept r =
     ++ settingsKept (r .settings)
     ++ feederKept (r .feeder)
     ++ ringKept (r .ring)
+    ++ namesKept (r .names)
 
 -- numbers of this version, each of which fits its field
 abbrev pub fitting : List ℕ → List Bool
@@ -196,6 +215,7 @@ fitting ws =
     ∷ every (sideFits (from ws sideAt))
     ∷ every (settingsFits (from ws settingsAt))
     ∷ every (feederFits (from ws feederAt))
+    ∷ every (namesFits (from ws namesAt))
     ∷ []
 
 unfoldable pub allFit : List ℕ → Bool
@@ -211,6 +231,7 @@ recorded ws =
       settings = settingsIn (from ws settingsAt);
       feeder = feederIn (from ws feederAt);
       ring = ringIn (from ws ringAt);
+      names = namesIn (from ws namesAt);
     }
 
 -- the numbers are a record that is sound with a ring of n bytes

@@ -3,6 +3,7 @@
 // moves nothing but its own part's end. Any numbers get an answer.
 mod at_feeder;
 mod at_job;
+mod at_names;
 mod at_ring;
 mod at_scanner;
 mod at_settings;
@@ -15,15 +16,19 @@ use rules::Record;
 ghost use mathlib.Core.Path.{_≡_};
 ghost use mathlib.Core.Bool.{true};
 ghost use lib.ListN.{length};
-ghost use Prim.Native.Nat.{_<_};
+ghost use Prim.Native.Nat.{_<_, _≤_};
+ghost use Rattle.rules.specs.Name.{nameRoom};
 ghost use Rattle.rules.specs.Record.{every};
 ghost use Rattle.stored.specs.Stored.{numberAt, wide16, feederKept, feederFits, heardIn, fedIn, wordCount, kept, allFit, recorded, isBox};
 
 // How many numbers there are.
-pub const WORDS: usize = at_ring::END;
+pub const WORDS: usize = at_names::END;
+
+// How many of them a host asks for: those before the last name.
+pub const ASKED: usize = at_ring::END;
 
 // The layout's number. Another layout has another.
-pub const VERSION: u64 = 1;
+pub const VERSION: u64 = 2;
 
 const VERSION_AT: usize = 0;
 
@@ -51,7 +56,10 @@ pub fn fits(w: &[u64; WORDS]) -> bool
     if !at_settings::fits(w) {
         return false;
     }
-    at_feeder::fits(w)
+    if !at_feeder::fits(w) {
+        return false;
+    }
+    at_names::fits(w)
 }
 
 // The record of numbers that fit.
@@ -64,6 +72,7 @@ pub fn load(w: &[u64; WORDS]) -> Record
     let settings = at_settings::load(w);
     let feeder = at_feeder::load(w);
     let ring = at_ring::load(w);
+    let names = at_names::load(w);
     Record {
         scanner,
         job,
@@ -71,6 +80,7 @@ pub fn load(w: &[u64; WORDS]) -> Record
         settings,
         feeder,
         ring,
+        names,
     }
 }
 
@@ -88,7 +98,7 @@ pub fn is_box(w: &[u64; WORDS], length: usize) -> bool
 // A record's numbers, in the place of any others.
 pub fn keep(w: &mut [u64; WORDS], r: Record)
     ensures { λ _. ⌜ now (w .exit) ≡ kept r ⌝ }
-    ensures { λ _. ⌜ allFit (now (w .exit)) ≡ true ⌝ }
+    ensures { λ _. ⌜ (r .names .last .len ≤ nameRoom → allFit (now (w .exit)) ≡ true) ⌝ }
 {
     let c = r.scanner;
     let j = r.job;
@@ -96,6 +106,7 @@ pub fn keep(w: &mut [u64; WORDS], r: Record)
     let t = r.settings;
     let f = r.feeder;
     let g = r.ring;
+    let m = r.names;
     count(*w);
     w[VERSION_AT] = VERSION;
     at_scanner::keep(w, c);
@@ -104,6 +115,7 @@ pub fn keep(w: &mut [u64; WORDS], r: Record)
     at_settings::keep(w, t);
     at_feeder::keep(w, f);
     at_ring::keep(w, g);
+    at_names::keep(w, m);
 }
 
 // ---- for a call that changes little, the numbers that it may have changed, and no others

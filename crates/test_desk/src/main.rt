@@ -11,6 +11,8 @@ use files::part;
 use files::word;
 use libc::STDOUT_FILENO;
 use rules::Failure;
+use rules::Named;
+use rules::Names;
 use rules::Record;
 use rules::Scan;
 use rules::Scanner;
@@ -39,7 +41,19 @@ pub fn say_count(what: &[u8], n: u64) {
     io::print_decimal(STDOUT_FILENO, n);
 }
 
-// The record that a word names. Idle with SideNumber 2 is not sound; a number is the last job given and the DestinationID.
+// J0000000001001.jpg, and J0000000001998.jpg.
+fn named(second: u64) -> Names {
+    let last = Named {
+        first: 0x4A30303030303030,
+        second,
+        third: 0x7067,
+        len: 18,
+    };
+    Names { last }
+}
+
+// The record that a word names. Idle with SideNumber 2 is not sound; Idle with a last name is that of a box that other hands have
+// kept; a number is the last job given and the DestinationID.
 fn start(word: &[u8]) -> Record {
     let mut r = Record::fresh();
     if check::same(word, b"fresh") {
@@ -47,6 +61,10 @@ fn start(word: &[u8]) -> Record {
     }
     if check::same(word, b"unsound") {
         r.side.number = 2;
+        return r;
+    }
+    if check::same(word, b"named") {
+        r.names = named(0x3030313030312E6A);
         return r;
     }
     if check::same(word, b"side_998") {
@@ -58,6 +76,7 @@ fn start(word: &[u8]) -> Record {
         r.job.held = 1;
         r.job.last = 1;
         r.side.number = 998;
+        r.names = named(0x3030313939382E6A);
         return r;
     }
     let n = (files::number(word) % 4294967296) as u32;

@@ -1,21 +1,25 @@
 -- From a call by value to the numbers.
-use Prim.Native.Nat.{ℕ, _<_}
+use Prim.Native.Nat.{ℕ, _<_, _≤_}
 use mathlib.Core.Path.{_≡_, refl, sym, ap, _∙_, subst}
 use mathlib.Core.Bool.{Bool, true, false, cond, false≢true}
 use mathlib.Core.List.{List}
 use lib.Dec.{eqb}
 use lib.ListN.{length}
 use Rattle.rules.specs.declared.Record.{Record}
+use Rattle.rules.specs.Name.{nameRoom}
 use Rattle.rules.specs.Record.{every, sound}
 use Rattle.rules.specs.Moves.{withFeeder, withRing, quietAt}
 use Rattle.rules.specs.Calls.{Call, State, Outcome}
 use Rattle.rules.specs.Machine.{step}
 use Rattle.rules.specs.Promises.{leftBy}
+use Rattle.rules.proofs.Sound.{to-sound, holds}
 use Rattle.rules.proofs.Answers.{nonzero, refused-keeps}
+use Rattle.rules.proofs.Follows.{kept-short}
 use Rattle.answers.specs.declared.Answer.{Answer}
 use Rattle.answers.specs.declared.After.{After}
 use Rattle.answers.specs.Told.{reasonOf, numberTold, valuesTold, stateOf, gave}
-use Rattle.stored.specs.Stored.{numberAt, wide16, feederKept, feederFits, heardIn, fedIn, wordCount, kept, allFit, recorded, isBox}
+use Rattle.stored.specs.Stored.{numberAt, wide16, feederKept, feederFits, heardIn, fedIn, namesAt, from, wordCount, kept, fitting, allFit, recorded, isBox}
+use Rattle.stored.proofs.Widths.{names-below}
 use Rattle.stored.proofs.Boxes.{box-fits, box-sound}
 use Rattle.stored.proofs.Back.{kept-recorded, heard-kept, heard-fits, fed-kept, fed-fits}
 use Rattle.working.specs.Worked.{Does}
@@ -54,10 +58,22 @@ module _ (c : Call) (ws ring : List ℕ) (r : Record) (box : isBox ws (length ri
   pub so : sound r (length ring) ≡ true
   so = ap (λ (x : Record). sound x (length ring)) same ∙ box-sound ws (length ring) box
 
+  -- the last name stays within its eighteen bytes
+  abbrev Short : Record → Type 0
+  Short x = x .names .last .len ≤ nameRoom
+
+  sound-ws : sound (recorded ws) (length ring) ≡ true
+  sound-ws = box-sound ws (length ring) box
+
+  short : Short (recorded ws)
+  unfolding recorded allFit
+  short = names-below (from ws namesAt) (holds (fitting ws) (box-fits ws (length ring) box) .1 .1 .1 .1 .1 .1 .0) .1
+
   -- a call that leaves a record, which is kept
   pub settled-does : {after : After} {a : Answer} {ws' ring' reply' : List ℕ}
       → (sound r (length ring) ≡ true → gave after ring' reply' ≡ step (stateOf r ring) c)
-      → (a ≡ after .answer) × ((ws' ≡ kept (after .next)) × (allFit ws' ≡ true)) → Does c ws ring a ws' ring' reply'
+      → (a ≡ after .answer) × ((ws' ≡ kept (after .next)) × (after .next .names .last .len ≤ nameRoom → allFit ws' ≡ true))
+      → Does c ws ring a ws' ring' reply'
   settled-does {after} {a} {ws'} {ring'} {reply'} g settled =
       let o : gave after ring' reply' ≡ step (stateOf (recorded ws) ring) c = g so ∙ ap (λ (x : Record). step (stateOf x ring) c) same in
       let next : after .next ≡ step (stateOf (recorded ws) ring) c .state .box = ap (λ (x : Outcome). x .state .box) o in
@@ -67,7 +83,7 @@ module _ (c : Call) (ws ring : List ℕ) (r : Record) (box : isBox ws (length ri
             ∙ ap (λ (x : Answer). gave (record { next = after .next; answer = x }) ring' reply') (settled .0)
             ∙ o;
         keeps = settled .1 .0 ∙ ap kept next;
-        fits = settled .1 .1;
+        fits = settled .1 .1 (subst Short (sym next) (kept-short (stateOf (recorded ws) ring) c (to-sound _ _ (sound-ws)) short));
       }
 
   -- what is kept of it, in each way
@@ -88,7 +104,7 @@ module _ (c : Call) (ws ring : List ℕ) (r : Record) (box : isBox ws (length ri
 
     -- nothing
     pub still-does : {a : Answer} → a ≡ after .answer → step (stateOf r ring) c .state .box ≡ r → Does c ws ring a ws ring' reply'
-    still-does e n = settled-does g (e, (wrote l ∙ ap kept (sym n ∙ left), fits))
+    still-does e n = settled-does g (e, (wrote l ∙ ap kept (sym n ∙ left), λ _. fits))
 
     -- quiet and the ring's two
     pub heard-does : {a : Answer} {ws' : List ℕ} → Heard r (step (stateOf r ring) c)
@@ -100,7 +116,7 @@ module _ (c : Call) (ws ring : List ℕ) (r : Record) (box : isBox ws (length ri
         sym (subst (λ (x : Record). x ≡ quietAt (x .job .quiet) (withRing (x .ring) r)) left only) in
         let w : ws' ≡ kept (quietAt q (withRing (after .next .ring) r)) =
         k .1 .0 ∙ ap (heardIn q (after .next .ring)) (wrote l) ∙ heard-kept r q (after .next .ring) in
-        settled-does g (k .0, (w ∙ ap kept n, ap allFit w ∙ heard-fits r (kept-fit l) q (after .next .ring) (k .1 .1)))
+        settled-does g (k .0, (w ∙ ap kept n, λ _. ap allFit w ∙ heard-fits r (kept-fit l) q (after .next .ring) (k .1 .1)))
 
     -- the feeder's part
     pub fed-does : {a : Answer} {ws' : List ℕ} → Fed r (step (stateOf r ring) c)
@@ -110,12 +126,14 @@ module _ (c : Call) (ws ring : List ℕ) (r : Record) (box : isBox ws (length ri
         let f = after .next .feeder in
         let n : withFeeder f r ≡ after .next = sym (subst (λ (x : Record). x ≡ withFeeder (x .feeder) r) left only) in
         let w : ws' ≡ kept (withFeeder f r) = k .1 .0 ∙ ap (fedIn f) (wrote l) ∙ fed-kept r f in
-        settled-does g (k .0, (w ∙ ap kept n, ap allFit w ∙ fed-fits r (kept-fit l) f (k .1 .1)))
+        settled-does g (k .0, (w ∙ ap kept n, λ _. ap allFit w ∙ fed-fits r (kept-fit l) f (k .1 .1)))
 
     -- all, but nothing of a refusal that leaves all as it was
     pub refusing-does : {a : Answer} {ws' : List ℕ} → ((n : ℕ) → leftBy c n (stateOf r ring) ≡ stateOf r ring)
-        → (a ≡ after .answer) × ((ws' ≡ settledIn after ws) × (allFit ws ≡ true → allFit ws' ≡ true)) → Does c ws ring a ws' ring' reply'
-    refusing-does kept-all k = settled-does g (k .0, (k .1 .0 ∙ go (isRefused (after .answer)) refl, k .1 .1 fits))
+        → (a ≡ after .answer)
+        × ((ws' ≡ settledIn after ws) × (after .next .names .last .len ≤ nameRoom → allFit ws ≡ true → allFit ws' ≡ true))
+        → Does c ws ring a ws' ring' reply'
+    refusing-does kept-all k = settled-does g (k .0, (k .1 .0 ∙ go (isRefused (after .answer)) refl, λ l. k .1 .1 l fits))
       where
         go : (b : Bool) → isRefused (after .answer) ≡ b → cond b ws (kept (after .next)) ≡ kept (after .next)
         go true f =
@@ -131,4 +149,4 @@ module _ (c : Call) (ws ring : List ℕ) (r : Record) (box : isBox ws (length ri
       → Does c ws ring a ws ring reply'
   told-does {a} {reply'} l g =
       let fits = box-fits ws (length ring) box in
-      settled-does {after = record { next = r; answer = a }} g (refl, (sym (kept-recorded ws l fits) ∙ ap kept (sym same), fits))
+      settled-does {after = record { next = r; answer = a }} g (refl, (sym (kept-recorded ws l fits) ∙ ap kept (sym same), λ _. fits))

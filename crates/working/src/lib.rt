@@ -7,8 +7,9 @@ use stored::WORDS;
 ghost use mathlib.Core.Path.{_≡_};
 ghost use mathlib.Core.Bool.{true};
 ghost use mathlib.Core.List.{List, []};
-ghost use Prim.Native.Nat.{ℕ, _<_};
+ghost use Prim.Native.Nat.{ℕ, _<_, _≤_};
 ghost use lib.ListN.{length};
+ghost use Rattle.rules.specs.Name.{nameRoom};
 ghost use Rattle.rules.specs.Record.{every};
 ghost use Rattle.rules.specs.Calls.{scan, Fetch, report, Tick};
 ghost use Rattle.stored.specs.Stored.{numberAt, wide16, feederKept, feederFits, heardIn, fedIn, allFit, isBox};
@@ -54,7 +55,7 @@ fn is_last(a: Answer) -> bool
 fn settle(w: &mut [u64; WORDS], after: After) -> Answer
     ensures { λ a. ⌜ a ≡ after .answer ⌝ }
     ensures { λ _. ⌜ now (w .exit) ≡ settledIn after (now (w .entry)) ⌝ }
-    ensures { λ _. ⌜ (allFit (now (w .entry)) ≡ true → allFit (now (w .exit)) ≡ true) ⌝ }
+    ensures { λ _. ⌜ (after .next .names .last .len ≤ nameRoom → allFit (now (w .entry)) ≡ true → allFit (now (w .exit)) ≡ true) ⌝ }
 {
     let answer = after.answer;
     if is_refused(answer) {

@@ -2,7 +2,8 @@
 #![allow(dead_code)]
 
 use peer::{
-    kind, perform, serve, write, FeederState, Progress, Record, ScanState, DESK_REPLY, DESK_RING, LINE_MOST, NO_RECORD,
+    kind, perform, serve, write, FeederState, Name, Progress, Record, ScanState, DESK_REPLY, DESK_RING, LINE_MOST,
+    NAME_MOST, NO_RECORD,
 };
 
 /// One desk record's bytes.
@@ -138,12 +139,24 @@ impl Bench {
     /// The present Destination.
     pub fn name(&self) -> String {
         assert_ne!(self.record.scan, ScanState::Idle);
-        if self.record.append == 1 {
-            format!("J{:010}{:03}.jpg", self.record.job, self.record.side_number)
-        } else {
-            format!("J{:010}.jpg", self.record.job)
-        }
+        name_of(&self.record)
     }
+}
+
+/// The name that a record gives.
+pub fn name_of(record: &Record) -> String {
+    if record.append == 1 {
+        format!("J{:010}{:03}.jpg", record.job, record.side_number)
+    } else {
+        format!("J{:010}.jpg", record.job)
+    }
+}
+
+/// A name as a record keeps it, "unused bytes 0".
+pub fn kept(name: &str) -> Name {
+    let mut bytes = [0; NAME_MOST];
+    bytes[..name.len()].copy_from_slice(name.as_bytes());
+    Name { bytes, length: name.len() as u8 }
 }
 
 /// The whole input's text from a host that shows so many bytes more at a time and lends so much room for lines.

@@ -4,11 +4,12 @@ use super::damage::damage;
 use super::streams::{as_whole, some_room};
 use super::{Differs, Trial};
 use crate::case::{Call, Input, Start, NOT_ASKED};
-use crate::guide::{fetch, Guide, Mix};
+use crate::guide::{fetch, record, Guide, Mix};
 use crate::rng::Rng;
-use crate::start::{offset, present_name, ring_length, some_start};
+use crate::start::{kept, name_of, named, offset, present_name, ring_length, some_start};
+use crate::tally::Passed;
 use crate::wire::{hex, Difference, Kind, Memory};
-use peer::{FeederState, Record, ScanState};
+use peer::{kind, FeederState, Name, Record, ScanState, NAME_MOST};
 use std::rc::Rc;
 use std::time::Instant;
 
@@ -19,6 +20,7 @@ const LIVE: u64 = 400;
 pub fn run(trial: &mut Trial, until: Instant) -> Result<String, Differs> {
     let fetches = every_fetch(trial)?;
     let rooms = every_room(trial)?;
+    let names = every_last_name(trial)?;
     let live = trial.cases("3, live streams", LIVE, Instant::now(), live)?;
     let mut replies = [0u64; 601];
     let walks =
@@ -26,8 +28,8 @@ pub fn run(trial: &mut Trial, until: Instant) -> Result<String, Differs> {
     let least = (0..=8).chain(255..=260).map(|length| replies[length]).min().unwrap_or(0);
     let lengths = replies.iter().filter(|&&times| times > 0).count();
     Ok(format!(
-        "{fetches} fetches at every edge, {rooms} calls with lines of 0 to 700 bytes, {live} live streams, {walks} \
-         walks; each reply length of 0..=8 and 255..=260 at least {least} times, {lengths} of 601 lengths in all"
+        "{fetches} fetches at every edge, {rooms} calls with lines of 0 to 700 bytes, {names} jobs behind a last name, \
+         {live} live streams, {walks} walks; each reply length of 0..=8 and 255..=260 at least {least} times, {lengths} of 601 lengths in all"
     ))
 }
 
@@ -66,6 +68,47 @@ fn every_room(trial: &mut Trial) -> Result<u64, Differs> {
         trial.end()?;
     }
     Ok(calls)
+}
+
+/// StartScan in Idle behind the very name that it gives, behind each that differs in one byte or in the length, and behind
+/// none.
+fn every_last_name(trial: &mut Trial) -> Result<u64, Differs> {
+    let mut jobs = 0;
+    let settings = [0, 1].map(|set| [0, 1, 2].map(|asked| (set, asked))).concat();
+    for ((append, asked), last_job) in settings.iter().flat_map(|&set| [0, 7, u32::MAX].map(|last| (set, last))) {
+        let job = last_job.checked_add(1).unwrap_or(1);
+        for last_name in [None, Some(1)].map(|side| beside(&name_of(job, side))).concat() {
+            for (side_count, destination) in [(0, 0), (1, 4), (0, u32::MAX), (1, u32::MAX)] {
+                jobs += 1;
+                trial.at("3, last names", jobs);
+                let before = Record { append, last_job, last_name, destination, ..Record::fresh() };
+                let payload = [0, 0, side_count, asked, 0, 0];
+                trial.begin(&Start { words: before.to_words(), ring_length: 16, fill: jobs });
+                trial.call(Call::perform(record(kind::START_SCAN, &payload)))?;
+                let after = trial.pair.model.record.expect("a sound record stays one");
+                let passed =
+                    Passed { kind: kind::START_SCAN, payload: &payload, before, after, ring_length: 16, fresh: false };
+                trial.tally.note_passed(&passed);
+                trial.end()?;
+            }
+        }
+    }
+    Ok(jobs)
+}
+
+/// A name as a record keeps it, with those beside it by a byte or by the length, and none.
+fn beside(name: &[u8]) -> Vec<Name> {
+    let name = kept(name);
+    let mut names = vec![Name::EMPTY];
+    for place in 0..NAME_MOST {
+        let mut other = name;
+        other.bytes[place] ^= 1;
+        names.push(other);
+    }
+    for length in 0..=NAME_MOST as u8 {
+        names.push(Name { length, ..name });
+    }
+    names
 }
 
 /// A stream record by record, as a host has it from a live input: it comes in pieces, what is only cut waits, and some
@@ -122,7 +165,7 @@ fn fetched_from() -> Vec<Start> {
                     let feeder = if scanning { FeederState::Busy } else { FeederState::Unloaded };
                     let (job, quiet, side_count) = (7, 3, scanning.into());
                     let held = Record { scan, feeder, job, last_job: job, quiet, side_count, ..Record::fresh() };
-                    let words = Record { start, stored, ..held }.to_words();
+                    let words = named(Record { start, stored, ..held }).to_words();
                     starts.push(Start { words, ring_length, fill: 0 });
                 }
             }

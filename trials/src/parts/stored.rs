@@ -5,16 +5,16 @@ use crate::case::{Call, Start};
 use crate::guide::{Guide, Mix};
 use crate::rng::Rng;
 use crate::start::{offset, ring_length, sound_words};
-use crate::wire::{Difference, Kind, Words};
-use peer::{Record, RING_MOST, VERSION, WORDS};
+use crate::wire::{Difference, Kind, Words, QUESTIONS};
+use peer::{Name, Record, NAME_MOST, RING_MOST, VERSION, WORDS};
 use std::time::Instant;
 
 /// So many base records at least, whatever the time.
 const LEAST: u64 = 40;
 
 /// The edges of fields and of numbers: values there and beside them are tried.
-const EDGES: [u64; 16] =
-    [1, 4, 60, 255, 256, 300, 600, 999, 1000, 4096, 65_536, 1 << 31, 0xFFFFFFFF, 1 << 32, 1 << 63, u64::MAX];
+const EDGES: [u64; 17] =
+    [1, 4, 18, 60, 255, 256, 300, 600, 999, 1000, 4096, 65_536, 1 << 31, 0xFFFFFFFF, 1 << 32, 1 << 63, u64::MAX];
 
 /// How many records are tried; of these, how many are sound, and how many are no record.
 #[derive(Default)]
@@ -36,7 +36,8 @@ pub fn run(trial: &mut Trial, until: Instant) -> Result<String, Differs> {
     ))
 }
 
-/// A sound record; rings of other lengths; every field of it at every edge; two fields; random words.
+/// A sound record; rings of other lengths; every field of it at every edge; every byte of its last name; two fields; random
+/// words.
 fn changes(trial: &mut Trial, mut rng: Rng, fill: u64, counts: &mut Counts) -> Result<(), Differs> {
     let rng = &mut rng;
     let ring_length = match rng.below(8) {
@@ -60,6 +61,9 @@ fn changes(trial: &mut Trial, mut rng: Rng, fill: u64, counts: &mut Counts) -> R
         for value in edges(rng, &base, field) {
             attempt(rng, changed(words, field, value), ring_length)?;
         }
+    }
+    for words in last_names(rng, &words) {
+        attempt(rng, words, ring_length)?;
     }
     for _ in 0..400 {
         let mut words = words;
@@ -90,10 +94,26 @@ fn changed(mut words: Words, field: usize, value: u64) -> Words {
     words
 }
 
+/// Another last name: by each of its bytes alone, by each length that fits, and none.
+fn last_names(rng: &mut Rng, words: &Words) -> Vec<Words> {
+    let Some(record) = Record::from_words(words) else {
+        return Vec::new();
+    };
+    let Name { bytes, length } = record.last_name;
+    let mut names: Vec<Name> = (0..=NAME_MOST as u8).map(|length| Name { bytes, length }).collect();
+    names.push(Name::EMPTY);
+    for place in 0..NAME_MOST {
+        let mut bytes = bytes;
+        bytes[place] ^= rng.pick(&[1, 2, 4, 8, 16, 32, 64, 128]);
+        names.push(Name { bytes, length });
+    }
+    names.into_iter().map(|last_name| Record { last_name, ..record }.to_words()).collect()
+}
+
 /// Ring lengths at the edges and around the words.
 fn rings(base: &Start) -> Vec<usize> {
     let mut rings = vec![0, 1, 2, 4095, 4096, 65_535, 65_536, 65_537, base.ring_length + 1, base.ring_length - 1];
-    rings.extend(base.words.iter().flat_map(|&word| near(word)).map(|word| word.min(1 << 20) as usize));
+    rings.extend(base.words[..QUESTIONS].iter().flat_map(|&word| near(word)).map(|word| word.min(1 << 20) as usize));
     rings.retain(|&length| length <= RING_MOST + 1);
     rings.sort();
     rings.dedup();
@@ -102,7 +122,8 @@ fn rings(base: &Start) -> Vec<usize> {
 
 /// The edges of a field: those of all fields, and those that the ring and the rest of the record set.
 fn edges(rng: &mut Rng, base: &Start, field: usize) -> Vec<u64> {
-    let around = [&EDGES[..], &base.words, &[base.ring_length as u64]].concat();
+    let rest = if field < QUESTIONS { &base.words[..QUESTIONS] } else { &base.words[field..=field] };
+    let around = [&EDGES[..], rest, &[base.ring_length as u64]].concat();
     let mut values: Vec<u64> = around.into_iter().flat_map(near).collect();
     // The same low bits with something above them.
     values.extend([8, 16, 31, 32, 63].map(|bit| base.words[field] | 1 << bit));
@@ -137,6 +158,7 @@ fn try_entries(trial: &mut Trial, rng: &mut Rng, counts: &mut Counts, start: &St
     if (Start { words: changed(start.words, 0, VERSION), ..*start }).is_sound() {
         trial.tally.note_version(start.words[0]);
     }
+    trial.tally.note_last_name(start);
     counts.tried += 1;
     counts.sound += sound as u64;
     counts.malformed += Record::from_words(&start.words).is_none() as u64;

@@ -5,7 +5,8 @@ use native.Mathlib.Omega.{arith}
 use borrow.Author.Needs.{needs}
 use lib.ListN.{length}
 use Rattle.rules.specs.Moves.{headed}
-use Rattle.fetch.proofs.Handed.{goes-most, least-goes, least-there}
+use Rattle.moves.proofs.Renaming.{sound-named}
+use Rattle.fetch.proofs.Handed.{goes-most, least-goes, least-there, drains-held}
 use Rattle.fetch.proofs.fetch_now.Statement.{statement}
 use Rattle.fetch.proofs.fetch_now.Tie as tie
 
@@ -30,8 +31,9 @@ returns : tie.Need-returns
 returns c =
     let out = c .before .before .before in
     let want = out .before .before .wanted .ensures in
-    let k = out .move-out .ensures in (
-      λ so. c .note .ensures (least-there _ _ _ _ _ _ so want (k .0)) ∙ rw (least-goes _ _ _ _ _ _ so want (k .0)),
+    let k = out .move-out .ensures in
+    let s = out .before .before .before .before .before .before .args .r .scanner .state in (
+      λ so. c .note .ensures (least-there _ _ _ _ _ _ so want (k .0)) (λ f. sound-named _ _ so (drains-held s f)) ∙ rw (least-goes _ _ _ _ _ _ so want (k .0)),
       λ so. rw (k .1, least-goes _ _ _ _ _ _ so want (k .0)),
     )
 

@@ -1,5 +1,7 @@
 -- The test decides whether the drain step follows (`Handed`).
-use mathlib.Core.Path.{sym, _∙_}
+use mathlib.Core.Path.{sym, ap, _∙_}
+use Rattle.rules.proofs.Choice.{and-l}
+use Rattle.moves.specs.Holds.{isNamed}
 use Rattle.fetch.proofs.Handed.{noted-last, noted-more}
 use borrow.Author.Needs.{needs}
 use Rattle.fetch.proofs.note.Statement.{statement}
@@ -26,8 +28,10 @@ told-requires c κs = search needs
 returns : tie.Need-returns
 returns c =
     let left = c .before .before .before .before .before .leave .ensures in
-    λ has.
-    rw (c .told .ensures, c .before .drain .ensures, c .before .before .before .before .hear .ensures, left)
+    let heard = c .before .before .before .before .hear .ensures in
+    let is = sym (c .before .before .before .is-last .ensures) ∙ c .before .before .if1 .taken in
+    λ has named.
+    rw (c .told .ensures, c .before .drain .ensures (ap isNamed heard ∙ named (and-l _ _ is)), heard, left)
     (noted-last _ _ _ has (rw (sym left) (sym (c .before .before .before .is-last .ensures)) ∙ c .before .before .if1 .taken))
 
 cast-t11 : tie.Need-cast-t11
@@ -39,7 +43,7 @@ told-requires-2 c κs = search needs
 returns-2 : tie.Need-returns-2
 returns-2 c =
     let left = c .before .before .before .before .leave .ensures in
-    λ has.
+    λ has named.
     rw (c .told2 .ensures, c .before .before .before .hear .ensures, left)
     (noted-more _ _ _ has (rw (sym left) (sym (c .before .before .is-last .ensures)) ∙ c .before .if1 .left))
 

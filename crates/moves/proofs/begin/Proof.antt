@@ -1,6 +1,6 @@
 -- The callees' equations, one after the other.
-use borrow.Author.Needs.{needs}
 use Rattle.rules.specs.Moves.{begun}
+use borrow.Author.Needs.{needs}
 use Rattle.moves.proofs.begin.Statement.{statement}
 use Rattle.moves.proofs.begin.Tie as tie
 
@@ -13,14 +13,9 @@ with-feeder-requires c κs = search needs
 stand-requires : tie.Need-stand-requires
 stand-requires c κs = search needs
 
-announce-requires : tie.Need-announce-requires
-announce-requires c κs = search needs
-
 returns : tie.Need-returns
 unfolding begun
-returns c = rw (c .announce .ensures, c .before .stand .ensures, c .before .before .with-feeder .ensures, c .before .before .before .take-from .ensures)
+returns c = rw (c .stand .ensures, c .before .with-feeder .ensures, c .before .before .take-from .ensures)
 
 pub begin-spec : {M : Type 1} → statement M
-begin-spec =
-    tie.close
-    (tie.spec take-from-requires with-feeder-requires stand-requires announce-requires returns)
+begin-spec = tie.close (tie.spec take-from-requires with-feeder-requires stand-requires returns)

@@ -5,7 +5,7 @@ use mathlib.Core.Bool.{_&&_}
 use native.Mathlib.Omega.{arith}
 use borrow.Author.Needs.{needs}
 use lib.ListN.{length, drop}
-use Rattle.rules.specs.Machine.{same}
+use Rattle.rules.specs.Name.{same}
 use Rattle.name.proofs.Same.{same-short, same-again, same-done}
 use Rattle.name.proofs.is_same.Statement.{statement}
 use Rattle.name.proofs.is_same.Tie as tie

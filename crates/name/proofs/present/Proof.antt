@@ -2,7 +2,7 @@
 use borrow.Author.Tests.{eq-eqb, ne-eqb}
 use borrow.Author.Needs.{needs}
 use Rattle.name.specs.Spelled.{padded}
-use Rattle.rules.specs.Moves.{name}
+use Rattle.rules.specs.Name.{nameOf}
 use Rattle.name.proofs.present.Statement.{statement}
 use Rattle.name.proofs.present.Tie as tie
 
@@ -49,11 +49,11 @@ digit-requires-13 : tie.Need-digit-requires-13
 digit-requires-13 c κs = search needs
 
 returns : tie.Need-returns
-unfolding name padded
+unfolding nameOf padded
 returns c = rw (eq-eqb _ _ (c .if1 .taken)) cc
 
 returns-2 : tie.Need-returns-2
-unfolding name padded
+unfolding nameOf padded
 returns-2 c = rw (ne-eqb _ _ (c .if1 .left)) cc
 
 pub present-spec : {M : Type 1} → statement M

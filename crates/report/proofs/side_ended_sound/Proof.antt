@@ -1,6 +1,10 @@
 -- Past soundness, each return walks the call's refusals up to the test that answered (`Leads`).
-use mathlib.Core.Path.{ap}
-use mathlib.Core.Bool.{not}
+use mathlib.Core.Path.{_≡_, sym, ap, _∙_}
+use mathlib.Core.Bool.{true, not}
+use borrow.Author.Tests.{not-false}
+use Rattle.rules.specs.Record.{scanning}
+use Rattle.rules.proofs.Keeps.{scans-held}
+use Rattle.moves.proofs.Renaming.{sound-named}
 use borrow.Author.Needs.{needs}
 use Rattle.rules.specs.Machine.{step, refusals, reportRefusals, effect, reportEffect}
 use Rattle.answers.proofs.Leads.{leads, accept, hit, skip, tests}
@@ -25,7 +29,11 @@ told-requires c κs = search needs
 
 returns-2 : tie.Need-returns-2
 unfolding step refusals reportRefusals effect reportEffect
-returns-2 c = λ so. rw (c .told .ensures, c .before .end-side .ensures) (leads (skip (ap not so) (skip (search tests) accept)))
+returns-2 c = λ so.
+    let s = c .before .before .before .before .before .before .args .r .scanner .state in
+    let scans : scanning s ≡ true = sym (c .before .before .before .is-scanning .ensures) ∙ not-false _ (c .before .before .if1 .left) in
+    let named = sound-named _ _ so (scans-held s scans) in
+    rw (c .told .ensures, c .before .end-side .ensures named) (leads (skip (ap not so) (skip (search tests) accept)))
 
 pub side-ended-sound-spec : {M : Type 1} → statement M
 side-ended-sound-spec =

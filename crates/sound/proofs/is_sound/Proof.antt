@@ -1,6 +1,6 @@
 -- A group that fails settles it; where all but the last hold, that decides (`Points`).
 use borrow.Author.Needs.{needs}
-use Rattle.sound.proofs.Points.{idle-fails, held-fails, ring-fails, feeder-fails, marks-decide}
+use Rattle.sound.proofs.Points.{idle-fails, held-fails, ring-fails, feeder-fails, marks-fail, name-decides}
 use Rattle.sound.proofs.is_sound.Statement.{statement}
 use Rattle.sound.proofs.is_sound.Tie as tie
 
@@ -32,16 +32,24 @@ mark-sound-requires : tie.Need-mark-sound-requires
 mark-sound-requires c κs = search needs
 
 returns-5 : tie.Need-returns-5
-returns-5 c =
-    let feeder = c .before .before in
+returns-5 c = marks-fail _ _ (c .before .mark-sound .ensures) (c .if5 .taken)
+
+name-sound-requires : tie.Need-name-sound-requires
+name-sound-requires c κs = search needs
+
+returns-6 : tie.Need-returns-6
+returns-6 c =
+    let mark = c .before .before in
+    let feeder = mark .before .before in
     let ring = feeder .before .before in
     let held = ring .before .before in
-    marks-decide _ _
+    name-decides _ _
     (held .before .before .idle-sound .ensures) (held .before .if1 .left)
     (held .held-sound .ensures) (ring .before .if2 .left)
     (ring .ring-sound .ensures) (feeder .before .if3 .left)
-    (feeder .feeder-sound .ensures) (c .before .if4 .left)
-    (c .mark-sound .ensures)
+    (feeder .feeder-sound .ensures) (mark .before .if4 .left)
+    (mark .mark-sound .ensures) (c .before .if5 .left)
+    (c .name-sound .ensures)
 
 pub is-sound-spec : {M : Type 1} → statement M
 is-sound-spec =
@@ -56,4 +64,6 @@ is-sound-spec =
     feeder-sound-requires
     returns-4
     mark-sound-requires
-    returns-5)
+    returns-5
+    name-sound-requires
+    returns-6)

@@ -8,7 +8,7 @@ use mathlib.Core.List.{List, [], _∷_}
 use lib.Dec.{eqb}
 use Rattle.rules.specs.Record.{every}
 use Rattle.stored.specs.Stored.{numberAt, from, version, scannerAt, scannerFits, jobAt, jobFits, sideAt, sideFits, settingsAt, settingsFits}
-use Rattle.stored.specs.Stored.{feederAt, feederFits, fitting, allFit}
+use Rattle.stored.specs.Stored.{feederAt, feederFits, namesAt, namesFits, fitting, allFit}
 use Rattle.stored.proofs.Rows.{one-fails, last-decides}
 use Rattle.stored.proofs.fits.Statement.{statement}
 use Rattle.stored.proofs.fits.Tie as tie
@@ -59,22 +59,35 @@ fits-requires-5 c κs = search needs
 returns-6 : tie.Need-returns-6
 unfolding allFit
 returns-6 c =
-    let w = c .before .before .before .before .before .before .before .before .before .before .before .args .w .now in
+    sym (one-fails (fitting (c .before .before .before .before .before .before .before .before .before .before .before .before .args .w .now)) 5
+    (stopped-at _ _ (c .before .fits6 .ensures) (c .if6 .taken)))
+
+fits-requires-6 : tie.Need-fits-requires-6
+fits-requires-6 c κs = search needs
+
+returns-7 : tie.Need-returns-7
+unfolding allFit
+returns-7 c =
+    let feeder = c .before .before in
+    let w = feeder .before .before .before .before .before .before .before .before .before .before .before .args .w .now in
     let tests : List Bool =
     eqb (numberAt w 0) version ∷ every (scannerFits (from w scannerAt)) ∷ every (jobFits (from w jobAt)) ∷ every (sideFits (from w sideAt))
-    ∷ every (settingsFits (from w settingsAt)) ∷ [] in
-    c .fits6 .ensures
+    ∷ every (settingsFits (from w settingsAt)) ∷ every (feederFits (from w feederAt)) ∷ [] in
+    c .fits7 .ensures
     ∙ sym
-    (last-decides tests (every (feederFits (from w feederAt))) (
-      eq-eqb _ version (c .before .before .before .before .before .before .before .before .before .if1 .left),
+    (last-decides tests (every (namesFits (from w namesAt))) (
+      eq-eqb _ version (feeder .before .before .before .before .before .before .before .before .before .if1 .left),
       (
-        went-on _ _ (c .before .before .before .before .before .before .before .before .fits2 .ensures)
-            (c .before .before .before .before .before .before .before .if2 .left),
+        went-on _ _ (feeder .before .before .before .before .before .before .before .before .fits2 .ensures)
+            (feeder .before .before .before .before .before .before .before .if2 .left),
         (
-          went-on _ _ (c .before .before .before .before .before .before .fits3 .ensures) (c .before .before .before .before .before .if3 .left),
+          went-on _ _ (feeder .before .before .before .before .before .before .fits3 .ensures) (feeder .before .before .before .before .before .if3 .left),
           (
-            went-on _ _ (c .before .before .before .before .fits4 .ensures) (c .before .before .before .if4 .left),
-            (went-on _ _ (c .before .before .fits5 .ensures) (c .before .if5 .left), tt),
+            went-on _ _ (feeder .before .before .before .before .fits4 .ensures) (feeder .before .before .before .if4 .left),
+            (
+              went-on _ _ (feeder .before .before .fits5 .ensures) (feeder .before .if5 .left),
+              (went-on _ _ (feeder .fits6 .ensures) (c .before .if6 .left), tt),
+            ),
           ),
         ),
       ),
@@ -95,4 +108,6 @@ fits-spec =
     fits-requires-4
     returns-5
     fits-requires-5
-    returns-6)
+    returns-6
+    fits-requires-6
+    returns-7)

@@ -30,20 +30,24 @@ keep-requires-5 c κs = search needs
 keep-requires-6 : tie.Need-keep-requires-6
 keep-requires-6 c κs = search needs
 
+keep-requires-7 : tie.Need-keep-requires-7
+keep-requires-7 c κs = search needs
+
 returns : tie.Need-returns
 returns c =
-    let scanner = c .before .before .before .before .before .before .before .before .before .before in
-    let start = scanner .before .before .before .before .before .before .before .before .before .before in
+    let ring = c .before .before in
+    let scanner = ring .before .before .before .before .before .before .before .before .before .before in
+    let start = scanner .before .before .before .before .before .before .before .before .before .before .before in
     let r = start .args .r in
     let row = row-kept r (start .args .w .now) (scanner .before .before .count .ensures) (scanner .keep .ensures)
-    (c .before .before .before .before .before .before .before .before .keep2 .ensures .0)
-    (c .before .before .before .before .before .before .keep3 .ensures .0) (c .before .before .before .before .keep4 .ensures .0)
-    (c .before .before .keep5 .ensures .0) (c .keep6 .ensures) in (
+    (ring .before .before .before .before .before .before .before .before .keep2 .ensures .0)
+    (ring .before .before .before .before .before .before .keep3 .ensures .0) (ring .before .before .before .before .keep4 .ensures .0)
+    (ring .before .before .keep5 .ensures .0) (ring .keep6 .ensures) (c .keep7 .ensures .0) in (
       row,
-      ap allFit row
-          ∙ kept-fits r (c .before .before .before .before .before .before .before .before .keep2 .ensures .1)
-          (c .before .before .before .before .before .before .keep3 .ensures .1) (c .before .before .before .before .keep4 .ensures .1)
-          (c .before .before .keep5 .ensures .1),
+      λ l. ap allFit row
+          ∙ kept-fits r (ring .before .before .before .before .before .before .before .before .keep2 .ensures .1)
+          (ring .before .before .before .before .before .before .keep3 .ensures .1) (ring .before .before .before .before .keep4 .ensures .1)
+          (ring .before .before .keep5 .ensures .1) (c .keep7 .ensures .1 l),
     )
 
 pub keep-spec : {M : Type 1} → statement M
@@ -58,4 +62,5 @@ keep-spec =
     keep-requires-4
     keep-requires-5
     keep-requires-6
+    keep-requires-7
     returns)

@@ -24,17 +24,22 @@ load-requires-5 c κs = search needs
 load-requires-6 : tie.Need-load-requires-6
 load-requires-6 c κs = search needs
 
+load-requires-7 : tie.Need-load-requires-7
+load-requires-7 c κs = search needs
+
 returns : tie.Need-returns
 unfolding allFit recorded
 returns c = λ e.
-    let fit = holds (fitting (c .before .before .before .before .before .before .args .w .now)) e in
+    let ring = c .before in
+    let fit = holds (fitting (ring .before .before .before .before .before .before .args .w .now)) e in
     rw (
-      c .load6 .ensures,
-      c .before .load5 .ensures (fit .1 .1 .1 .1 .1 .0),
-      c .before .before .load4 .ensures (fit .1 .1 .1 .1 .0),
-      c .before .before .before .load3 .ensures (fit .1 .1 .1 .0),
-      c .before .before .before .before .load2 .ensures (fit .1 .1 .0),
-      c .before .before .before .before .before .load .ensures,
+      c .load7 .ensures (fit .1 .1 .1 .1 .1 .1 .0),
+      ring .load6 .ensures,
+      ring .before .load5 .ensures (fit .1 .1 .1 .1 .1 .0),
+      ring .before .before .load4 .ensures (fit .1 .1 .1 .1 .0),
+      ring .before .before .before .load3 .ensures (fit .1 .1 .1 .0),
+      ring .before .before .before .before .load2 .ensures (fit .1 .1 .0),
+      ring .before .before .before .before .before .load .ensures,
     ) refl
 
 pub load-spec : {M : Type 1} → statement M
@@ -47,4 +52,5 @@ load-spec =
     load-requires-4
     load-requires-5
     load-requires-6
+    load-requires-7
     returns)

@@ -12,7 +12,7 @@ is-refused-requires c κs = search needs
 returns : tie.Need-returns
 returns c =
     let a = c .before .before .args in
-    (refl, (sym (ap (λ (b : Bool). cond b (a .w .now) (kept (a .after .next))) (sym (c .before .is-refused .ensures) ∙ c .if1 .taken)), λ f. f))
+    (refl, (sym (ap (λ (b : Bool). cond b (a .w .now) (kept (a .after .next))) (sym (c .before .is-refused .ensures) ∙ c .if1 .taken)), λ _ f. f))
 
 keep-requires : tie.Need-keep-requires
 keep-requires c κs = search needs
@@ -24,7 +24,7 @@ returns-2 c =
       refl,
       (
         c .keep .ensures .0 ∙ sym (ap (λ (b : Bool). cond b (a .w .now) (kept (a .after .next))) (sym (f .before .is-refused .ensures) ∙ f .if1 .left)),
-        λ _. c .keep .ensures .1,
+        λ l _. c .keep .ensures .1 l,
       ),
     )
 

@@ -8,7 +8,7 @@ use std::path::{Path, PathBuf};
 use std::process::{Command, Output, Stdio};
 
 /// A check that takes longer is given up.
-const SECONDS: &str = "60";
+const SECONDS: &str = "240";
 
 #[derive(Clone)]
 pub enum Verdict {

@@ -9,10 +9,10 @@ use std::fs;
 use std::path::Path;
 
 /// The files of definitions, each after those that it uses. All other files of specs/ are the table's.
-pub const FILES: [&str; 8] = ["Record", "Ring", "Calls", "Feeder", "Moves", "Machine", "Watch", "Promises"];
+pub const FILES: [&str; 9] = ["Name", "Record", "Ring", "Calls", "Feeder", "Moves", "Machine", "Watch", "Promises"];
 
 /// What the rules use of the libraries. A single small letter is any type.
-const LIBRARY: [(&str, &str); 21] = [
+const LIBRARY: [(&str, &str); 22] = [
     ("zero", "ℕ"),
     ("suc", "ℕ → ℕ"),
     ("min", "ℕ → ℕ → ℕ"),
@@ -32,6 +32,7 @@ const LIBRARY: [(&str, &str); 21] = [
     ("set", "List a → ℕ → a → List a"),
     ("take", "ℕ → List a → List a"),
     ("drop", "ℕ → List a → List a"),
+    ("replicate", "ℕ → a → List a"),
     ("pos", "ℕ → ℤ"),
     ("negsuc", "ℕ → ℤ"),
 ];
