@@ -1,5 +1,7 @@
 // What is asked of the box, and what it answers: a case for each kind of values that an acceptance reports, or the reason for
 // which the call is refused.
+#![tactic(auto)]
+
 ghost use Rattle.std.specs.Prelude.{◌≡◌};
 ghost use Rattle.rules.specs.Calls.{number_of};
 ghost use Rattle.answers.specs.Told.{reason_of, number_told};
@@ -7,7 +9,7 @@ ghost use Rattle.answers.specs.Told.{reason_of, number_told};
 use rules::{Failure, Fed, Feed, Record, Scan};
 
 // The calls and reports. A fetch's name, a report's picture bytes and the reply are lent beside.
-#[derive(Drop)]
+#[derive(Clone, Copy)]
 pub enum Request {
     StartScan(u8, u32, u8, u32),
     Start(u32, u8, u32),
@@ -31,7 +33,7 @@ pub enum Request {
 }
 
 // The reasons, in order of test.
-#[derive(Drop)]
+#[derive(Clone, Copy)]
 pub enum Why {
     Unsound,
     Unlisted,
@@ -64,7 +66,7 @@ impl Why {
 // Accepted: nothing to report; the granted time; DestinationID, the name being the next record's; k and whether it is the last,
 // the bytes standing in the reply; scan state and FailureCode; SideNumber, SideCount, ScanLength; the feeder's state, MorePages,
 // FailureCode; the mode; how many bytes went in. Refused: why.
-#[derive(Drop)]
+#[derive(Clone, Copy)]
 pub enum Answer {
     Done,
     Time(u16),
@@ -99,7 +101,7 @@ impl Answer {
 }
 
 // The record that a call leaves, and its answer.
-#[derive(Drop)]
+#[derive(Clone, Copy)]
 pub struct After {
     pub next: Record,
     pub answer: Answer,

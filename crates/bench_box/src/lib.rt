@@ -1,4 +1,6 @@
 // The box for a host in C: include/bench_box.h says it in C's words. A box is its numbers; whatever they are, each function answers.
+#![tactic(auto)]
+
 ghost use Rattle.std.specs.Prelude.{◌≡◌, true, [], ◌∷◌, length as len};
 ghost use Rattle.rules.specs.Record.{fresh};
 ghost use Rattle.stored.specs.Stored.{kept, all_fit, is_box};

@@ -1,4 +1,6 @@
 // Every call and report through one door.
+#![tactic(auto)]
+
 ghost use Rattle.std.specs.Prelude.{◌≡◌};
 ghost use Rattle.rules.specs.Calls.{lent};
 ghost use Rattle.rules.specs.Machine.{step};

@@ -1,5 +1,7 @@
 // The desk program: records from standard input, a line each on standard output. What stands here reads, takes a turn and writes; all
 // else is `desk_loop`.
+#![tactic(auto)]
+
 ghost use Rattle.std.specs.Prelude.{◌≡◌, true, false, ◌+◌, ◌≤◌, ◌<◌, length, take, drop, replicate};
 ghost use Rattle.rules.specs.Record.{fresh};
 ghost use Rattle.stored.specs.Stored.{kept};
@@ -17,7 +19,7 @@ use stored::WORDS;
 const RING: usize = 4096;
 
 // How many bytes a read brought, and whether it failed.
-#[derive(Drop)]
+#[derive(Clone, Copy)]
 struct Got {
     count: usize,
     failed: bool,
@@ -44,7 +46,7 @@ fn read_behind(buf: &mut [u8], held: usize) -> Got
 }
 
 // Where the desk stands behind a turn, or that its read failed.
-#[derive(Drop)]
+#[derive(Clone, Copy)]
 struct Moved {
     flow: Flow,
     failed: bool,

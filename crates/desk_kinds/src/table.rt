@@ -6,7 +6,7 @@ use crate::Limits;
 use crate::kinds::*;
 
 // A kind, with the least and the greatest length of its payload.
-#[derive(Drop)]
+#[derive(Clone, Copy)]
 struct Row(u8, u8, u8);
 
 const KINDS: [Row; 19] = [

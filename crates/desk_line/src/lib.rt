@@ -1,4 +1,6 @@
 // The desk's line for one answered record. Its room is tested once: behind the test each part asks for the room that it may take.
+#![tactic(auto)]
+
 mod extra;
 mod lent;
 mod text;

@@ -1,5 +1,7 @@
 // The desk program but for its reads and writes: which window a turn answers, with which offset and whether it is the last, what is
 // kept of it, and where the next bytes go.
+#![tactic(auto)]
+
 ghost use Rattle.std.specs.Prelude.{◌≡◌, ◌+◌, ◌-◌, ◌≤◌, min, length};
 ghost use Rattle.desk_text.specs.Put.{Puts};
 ghost use Rattle.stored.specs.Stored.{is_box};
@@ -11,7 +13,7 @@ use stored::WORDS;
 // Where the desk stands: `held` bytes of the input in the window, of which those before `at` are answered, and the offset in the
 // input of the byte at `at`; whether the input has ended, whether the window wants more of it, whether all is said; and how much
 // text the last turn put.
-#[derive(Drop)]
+#[derive(Clone, Copy)]
 pub struct Flow {
     pub at: usize,
     pub held: usize,

@@ -1,4 +1,6 @@
 // Desk records: mark A5 5A, kind, length, payload.
+#![tactic(auto)]
+
 use answers::{Request, Why};
 
 pub mod read;
@@ -17,7 +19,7 @@ const KIND_AT: usize = 2;
 const LENGTH_AT: usize = 3;
 
 // Which byte of a record is wrong; or the bytes are right, and end before the record does.
-#[derive(Drop)]
+#[derive(Clone, Copy)]
 pub enum Fault {
     Mark,
     Kind,
@@ -26,14 +28,14 @@ pub enum Fault {
 }
 
 // What stands at the front of some bytes: a record with its kind and its payload's length, or the first byte that is wrong.
-#[derive(Drop)]
+#[derive(Clone, Copy)]
 pub enum Front {
     Whole(u8, usize),
     Wrong(Fault, usize),
 }
 
 // What reading at a place answers.
-#[derive(Drop)]
+#[derive(Clone, Copy)]
 pub enum Reading {
     Record {
         kind: u8,
@@ -45,7 +47,7 @@ pub enum Reading {
 }
 
 // What is heard at a place: a record that reads, with what it asks.
-#[derive(Drop)]
+#[derive(Clone, Copy)]
 pub enum Hearing {
     Record {
         kind: u8,
@@ -58,7 +60,7 @@ pub enum Hearing {
 }
 
 // What writing answers: how many bytes stand at the front of the buffer, or why none do.
-#[derive(Drop)]
+#[derive(Clone, Copy)]
 pub enum Written {
     Length(usize),
     Refused(Why),

@@ -1,5 +1,7 @@
 // A window of the desk's input, answered record by record into a lent buffer. The box is its numbers, lent for each window and each
 // record, and found there as they are left.
+#![tactic(auto)]
+
 ghost use Rattle.std.specs.Prelude.{◌≡◌, ◌+◌, ◌≤◌, true, false, not, [], length, drop, if◌then◌else◌};
 ghost use Rattle.rules.specs.Machine.{step};
 ghost use Rattle.answers.specs.Asked.{asked, replied};
@@ -29,7 +31,7 @@ const NO_RECORD: u16 = 0x_f_f_f_f;
 
 // What came of a record, or of a window of them: the number, how far the input is read, how much text stands in the lines, and
 // whether a bad record was met.
-#[derive(Drop)]
+#[derive(Clone, Copy)]
 pub struct Came {
     pub number: u16,
     pub read: usize,

@@ -1,5 +1,7 @@
 // Text into a lent buffer, as far as there is room. Each function puts its text at a place and answers the place behind it,
 // so that one text is put behind another with no test in between.
+#![tactic(auto)]
+
 ghost use Rattle.std.specs.Prelude.{◌≡◌, cond, [], ◌∷◌, ◌-◌, ◌*◌, ◌<◌, min, ltb, length};
 ghost use Rattle.desk_text.specs.Put.{Puts};
 ghost use Rattle.desk_text.specs.Digits.{decimal, hex_digit, hex_byte, hexes};

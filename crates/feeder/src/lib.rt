@@ -1,5 +1,7 @@
 // The feeder calls: the job number must be the one held, 0 when Idle.
 // A call's `_sound` is for a caller that knows the record to be sound with the ring: soundness is tested once.
+#![tactic(auto)]
+
 pub mod mode;
 
 ghost use Rattle.std.specs.Prelude.{◌≡◌, true, cond, [], length};

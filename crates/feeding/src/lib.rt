@@ -1,4 +1,6 @@
 // The feeder's moves, which speak of the feeder alone, and the sheet tests of a side's beginning.
+#![tactic(auto)]
+
 pub mod rule;
 
 ghost use Rattle.std.specs.Prelude.{◌≡◌, cond, ◌&&◌};

@@ -1,4 +1,6 @@
 // Fetch by name.
+#![tactic(auto)]
+
 ghost use Rattle.std.specs.Prelude.{◌≡◌, true, not, ◌||◌, ◌&&◌, ◌-◌, ◌<◌, ◌≤◌, min, eqb, length};
 ghost use Rattle.rules.specs.Record.{idle, finishing, sound};
 ghost use Rattle.rules.specs.Name.{name, same};

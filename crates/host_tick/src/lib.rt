@@ -1,11 +1,13 @@
 // The tick entry: the box's second timer owns the record, lends it for each tick and finds it updated there.
+#![tactic(auto)]
+
 ghost use Rattle.std.specs.Prelude.{◌≡◌};
 ghost use Rattle.host_tick.specs.Second.{second_of};
 
 use rules::Record;
 
 // A second's record and number.
-#[derive(Drop)]
+#[derive(Clone, Copy)]
 pub struct Ticked {
     pub next: Record,
     pub number: u16,

@@ -1,4 +1,6 @@
 // What StartScan, Start and Stop make of the record.
+#![tactic(auto)]
+
 ghost use Rattle.std.specs.Prelude.{◌≡◌, ◌||◌};
 ghost use Rattle.rules.specs.Record.{pending, erred};
 ghost use Rattle.rules.specs.Moves.{next_job, given, readied, started, stopped};

@@ -1,4 +1,6 @@
 // The moves of the record, each under the requirements' name. What they leave alone they keep.
+#![tactic(auto)]
+
 ghost use Rattle.std.specs.Prelude.{◌≡◌, true};
 ghost use Rattle.rules.specs.Moves.{with_feeder, with_ring, standing, quiet_at, stop_at, emptied, fed_by, heard, begun, announced, released, ended, timed_out};
 ghost use Rattle.rules.specs.Moves.{risen, announced_by, faulted, waited, numbered, drained_on, drained};

@@ -1,4 +1,6 @@
 // The present Destination's name, and whether a name is it.
+#![tactic(auto)]
+
 ghost use Rattle.std.specs.Prelude.{◌≡◌, [], ◌∷◌, ◌+◌, ◌*◌, ◌%◌};
 ghost use Rattle.rules.specs.Name.{name_of, name, same, packed, spelt, alike};
 ghost use Rattle.name.specs.Spelled.{digit_of, padded};
@@ -9,7 +11,7 @@ use rules::{Named, Record};
 const MOST: usize = 18;
 
 // The bytes of a name and how many there are; unused bytes are 0.
-#[derive(Drop)]
+#[derive(Clone, Copy)]
 pub struct Name {
     pub bytes: [u8; MOST],
     pub len: usize,

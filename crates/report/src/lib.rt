@@ -1,5 +1,7 @@
 // The five sensor reports; a second is a Tick. A call whose name ends in `_sound` says what it gives on a sound record only: for a
 // caller that has tested that already.
+#![tactic(auto)]
+
 ghost use Rattle.std.specs.Prelude.{◌≡◌, true, List, [], ℕ, ◌+◌, ◌^◌, ◌<◌, length as len};
 ghost use Rattle.rules.specs.Record.{sound};
 ghost use Rattle.rules.specs.Feeder.{tray_at};

@@ -1,5 +1,7 @@
 // The ring of picture bytes: a lent slice, filled behind the stored bytes and read from its start, round its end. Each call
 // copies in straight runs, at most two.
+#![tactic(auto)]
+
 ghost use Rattle.std.specs.Prelude.{◌≡◌, ◌+◌, ◌-◌, ◌<◌, ◌≤◌, min, length, drop};
 ghost use Rattle.std.proofs.Math.Seq.{paste};
 ghost use Rattle.rules.specs.Ring.{wrap, put};

@@ -1,9 +1,11 @@
 // The record of the bench box, in small parts by what changes together, and the two makers of its values.
+#![tactic(auto)]
+
 ghost use Rattle.std.specs.Prelude.{◌≡◌};
 ghost use Rattle.rules.specs.Record.{granting, fresh};
 
 // Scan state.
-#[derive(Drop)]
+#[derive(Clone, Copy)]
 pub enum Scan {
     Idle,
     Pending,
@@ -13,7 +15,7 @@ pub enum Scan {
 }
 
 // Feeder state.
-#[derive(Drop)]
+#[derive(Clone, Copy)]
 pub enum Feed {
     Unloaded,
     Loaded,
@@ -22,27 +24,27 @@ pub enum Feed {
 }
 
 // FailureCode.
-#[derive(Drop)]
+#[derive(Clone, Copy)]
 pub enum Failure {
     None,
     Jammed,
     Timeout,
 }
 
-#[derive(Drop)]
+#[derive(Clone, Copy)]
 pub struct Scanner {
     pub state: Scan,
     pub failure: Failure,
 }
 
 // The granted time.
-#[derive(Drop)]
+#[derive(Clone, Copy)]
 pub struct Granted {
     pub seconds: u16,
 }
 
 // The job held (0 for none), the last number given, its time, its quiet seconds, the stop-asked mark.
-#[derive(Drop)]
+#[derive(Clone, Copy)]
 pub struct Job {
     pub held: u32,
     pub last: u32,
@@ -52,21 +54,21 @@ pub struct Job {
 }
 
 // UseFeeder and AppendSideNumber.
-#[derive(Drop)]
+#[derive(Clone, Copy)]
 pub struct Settings {
     pub feeder: u8,
     pub append: u8,
 }
 
 // Where the stored picture bytes start in the lent ring, and how many there are.
-#[derive(Drop)]
+#[derive(Clone, Copy)]
 pub struct Ring {
     pub start: usize,
     pub stored: usize,
 }
 
 // SideNumber, SideCount as the bits of its two's complement, DestinationID.
-#[derive(Drop)]
+#[derive(Clone, Copy)]
 pub struct Side {
     pub number: u16,
     pub count: u32,
@@ -74,7 +76,7 @@ pub struct Side {
 }
 
 // The feeder with the tray sensor (MorePages) and the path sensor (1 is jammed).
-#[derive(Drop)]
+#[derive(Clone, Copy)]
 pub struct Feeder {
     pub state: Feed,
     pub failure: Failure,
@@ -83,7 +85,7 @@ pub struct Feeder {
 }
 
 // What moves the feeder: Load, Eject one, Eject all, Reset, path 1, side ended.
-#[derive(Drop)]
+#[derive(Clone, Copy)]
 pub enum Input {
     Load,
     EjectOne,
@@ -94,14 +96,14 @@ pub enum Input {
 }
 
 // What the feeder's rule gives: the next state, and the reason number, 0 where accepted.
-#[derive(Drop)]
+#[derive(Clone, Copy)]
 pub struct Fed {
     pub next: Feed,
     pub number: u16,
 }
 
 // A name in eighteen bytes, unused ones 0, and its length: three numbers, of eight, eight and two bytes, the first byte highest.
-#[derive(Drop)]
+#[derive(Clone, Copy)]
 pub struct Named {
     pub first: u64,
     pub second: u64,
@@ -110,12 +112,12 @@ pub struct Named {
 }
 
 // The last name that any job held.
-#[derive(Drop)]
+#[derive(Clone, Copy)]
 pub struct Names {
     pub last: Named,
 }
 
-#[derive(Drop)]
+#[derive(Clone, Copy)]
 pub struct Record {
     pub scanner: Scanner,
     pub job: Job,

@@ -1,4 +1,6 @@
 // What the sensor reports make of the record.
+#![tactic(auto)]
+
 ghost use Rattle.std.specs.Prelude.{◌≡◌, true, cond, ◌+◌, leb};
 ghost use Rattle.rules.specs.Moves.{finished, side_ended, feeds, caught, pathed, timed_out, quiet_at, ticked};
 ghost use Rattle.moves.specs.Holds.{is_named};

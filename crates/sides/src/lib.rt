@@ -1,4 +1,6 @@
 // The numbers of a side and its settings.
+#![tactic(auto)]
+
 ghost use Rattle.std.specs.Prelude.{◌≡◌};
 ghost use Rattle.rules.specs.Moves.{risen, settled, stored_sides, fallen};
 

@@ -1,4 +1,6 @@
 // When a record is sound with a lent ring: the requirements' five points, each over the parts it speaks of, and the last name's.
+#![tactic(auto)]
+
 ghost use Rattle.std.specs.Prelude.{◌≡◌, not, ℕ, length};
 ghost use Rattle.rules.specs.Record.{every, idle_points, held_points, ring_points, feeder_points, mark_points, idle, implies, sound};
 ghost use Rattle.rules.specs.Name.{name_of, spelt, alike};

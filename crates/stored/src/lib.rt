@@ -1,6 +1,8 @@
 // The record as numbers: the form in which a host keeps it, and in which the box works. A version comes first, then the record's
 // parts in a row, each in a module with the places of its fields: a part begins where the one before it ends, so that a new field
 // moves nothing but its own part's end. Any numbers get an answer.
+#![tactic(auto)]
+
 mod at_feeder;
 mod at_job;
 mod at_names;

@@ -5,7 +5,7 @@ use desk_stream::Came;
 use stored::WORDS;
 
 // Where a run stands: the bytes before `at` are answered, those before `come` have come, and `said` bytes of text are gathered.
-#[derive(Drop)]
+#[derive(Clone, Copy)]
 struct Run {
     at: usize,
     come: usize,

@@ -6,14 +6,14 @@ use crate::{Tally, say, say_count};
 use stored::WORDS;
 
 // How many records are whole, and the place behind them: a bad one's, or the end.
-#[derive(Drop)]
+#[derive(Clone, Copy)]
 struct Reach {
     records: usize,
     at: usize,
 }
 
 // A place, and the bits of its byte that are changed; where there are none, the stream ends before it.
-#[derive(Drop)]
+#[derive(Clone, Copy)]
 struct Spot {
     at: usize,
     bits: u8,

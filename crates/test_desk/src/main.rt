@@ -6,6 +6,8 @@
 // Where the record is not sound with the ring the one line is `604 0 0`: nothing is read, and nothing written.
 // Each stream is answered in cuts. Where the last number is not 0, so is each of its prefixes, and the stream with one byte changed:
 // each byte in turn (1), or every seventh (7).
+#![tactic(auto)]
+
 use files::{behind, part, word};
 use libc::STDOUT_FILENO;
 use rules::{Failure, Named, Names, Record, Scan, Scanner};
@@ -16,7 +18,7 @@ mod damage;
 mod files;
 
 // What was tried: cases, prefixes, and changes that were answered or bad. `right` says that the present case does not differ so far.
-#[derive(Drop)]
+#[derive(Clone, Copy)]
 pub struct Tally {
     pub right: bool,
     pub cases: u64,

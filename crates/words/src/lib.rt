@@ -1,4 +1,6 @@
 // The words of the rules as tests: the scan state and its limit of quiet, the feeder's state, what a call brings.
+#![tactic(auto)]
+
 ghost use Rattle.std.specs.Prelude.{◌≡◌};
 ghost use Rattle.rules.specs.Record.{idle, pending, scanning, finishing, erred, unloaded, busy, stuck, marked, limit};
 ghost use Rattle.rules.specs.Machine.{listed, not_held, not_ours};

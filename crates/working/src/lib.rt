@@ -1,5 +1,7 @@
 // The calls on the working record: the numbers of a sound box, changed in place. Nothing tests them again, and each call makes of
 // them no more of the record than it uses.
+#![tactic(auto)]
+
 ghost use Rattle.std.specs.Prelude.{◌≡◌, true, List, [], ℕ, ◌<◌, ◌≤◌, length};
 ghost use Rattle.rules.specs.Name.{name_room};
 ghost use Rattle.rules.specs.Record.{every};
