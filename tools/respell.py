@@ -16,8 +16,9 @@ import sys
 ROOT = pathlib.Path(sys.argv[1] if len(sys.argv) > 1 else ".")
 CAMEL = re.compile(r"[a-z][a-z0-9]*(?:[A-Z][a-z0-9]*)+'*")
 CASE_NAME = re.compile(r"[JK][0-9]+(?:-[0-9]+)?")
+WORD = r"(?<!\w)[^\W\d][\w'·]*(?:-[\w'·]+)*"
 # a string, a byte or a char, a comment, a word
-PIECE = re.compile(r"\"(?:[^\"\\]|\\.)*\"|b?'(?:[^'\\]|\\.)'|(?:--|//)[^\n]*|[^\W\d][\w'·]*(?:-[\w'·]+)*")
+PIECE = re.compile(r"\"(?:[^\"\\]|\\.)*\"|b?'(?:[^'\\]|\\.)'|(?:--|//)[^\n]*|" + WORD)
 FACTS = {"desk_line": {"short": "Short"}}
 
 
@@ -35,7 +36,7 @@ def turned(text: str, facts: dict, antt: bool) -> str:
         if s[0] == '"' or (s[-1] == "'" and "'" in s[:-1]):
             return s
         if s.startswith(("--", "//")):
-            return s[:2] + re.sub(r"[^\W\d][\w'·]*(?:-[\w'·]+)*", lambda w: respelt(w.group(0)), s[2:])
+            return s[:2] + re.sub(WORD, lambda w: respelt(w.group(0)), s[2:])
         if antt and CASE_NAME.fullmatch(s):
             return s.lower()
         return facts.get(s, respelt(s))
@@ -71,7 +72,7 @@ def main() -> int:
     for page in pages:
         if page.exists():
             text = page.read_text()
-            page.write_text(re.sub(r"`[^`\n]+`", lambda m: re.sub(r"[^\W\d][\w'·]*(?:-[\w'·]+)*", lambda w: respelt(w.group(0)), m.group(0)), text))
+            page.write_text(re.sub(r"`[^`\n]+`", lambda m: re.sub(WORD, lambda w: respelt(w.group(0)), m.group(0)), text))
     print(f"respell: {len(outcome)} files")
     return 0
 

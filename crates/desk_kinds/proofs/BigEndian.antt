@@ -46,5 +46,5 @@ module _ (s : List ℕ) (i r x y : ℕ) where
 pub not-below : (c : ℕ) → c < 0x8000 → c ≡ extended c
 not-below c h = simp (lt-ltb _ _ h)
 
-pub below : (c : ℕ) → 0x8000 ≤ c → c + 0x_f_f_f_f0000 ≡ extended c
+pub below : (c : ℕ) → 0x8000 ≤ c → c + 0xFFFF0000 ≡ extended c
 below c h = simp (le-ltb _ _ h)

@@ -82,9 +82,9 @@ pub fields : List (Case Asking)
 unfolding asking_of entry_in entries big_endian bytes
 fields =
     that "01 UseFeeder 1, SideCount 2, Append 1, time 2" (asking_of 0x01 (bytes "11 2233 44 5566")) (Asks (StartScan 0x11 0x2233 0x44 0x5566)) refl
-    ∷ that "01 SideCount −1" (asking_of 0x01 (bytes "11 FFFF 44 5566")) (Asks (StartScan 0x11 0x_f_f_f_f_f_f_f_f 0x44 0x5566)) refl
+    ∷ that "01 SideCount −1" (asking_of 0x01 (bytes "11 FFFF 44 5566")) (Asks (StartScan 0x11 0xFFFFFFFF 0x44 0x5566)) refl
     ∷ that "02 job 4, UseFeeder 1, SideCount 2" (asking_of 0x02 (bytes "11223344 55 6677")) (Asks (Start 0x11223344 0x55 0x6677)) refl
-    ∷ that "02 SideCount −1" (asking_of 0x02 (bytes "11223344 55 FFFF")) (Asks (Start 0x11223344 0x55 0x_f_f_f_f_f_f_f_f)) refl
+    ∷ that "02 SideCount −1" (asking_of 0x02 (bytes "11223344 55 FFFF")) (Asks (Start 0x11223344 0x55 0xFFFFFFFF)) refl
     ∷ that "03 job" (asking_of 0x03 (bytes "11223344")) (Asks (Stop 0x11223344)) refl
     ∷ that "04 job" (asking_of 0x04 (bytes "11223344")) (Asks (Abort 0x11223344)) refl
     ∷ that "05 job" (asking_of 0x05 (bytes "11223344")) (Asks (GetDestination 0x11223344)) refl
@@ -104,11 +104,11 @@ fields =
     ∷ that "24 nothing" (asking_of 0x24 []) (Asks Tick) refl
     ∷ that "00 is not listed" (asking_of 0x00 (bytes "11223344")) AsksNothing refl
     ∷ that "09 is not listed" (asking_of 0x09 (bytes "11223344")) AsksNothing refl
-    ∷ that "0F is not listed" (asking_of 0x0_f (bytes "11223344")) AsksNothing refl
+    ∷ that "0F is not listed" (asking_of 0x0F (bytes "11223344")) AsksNothing refl
     ∷ that "16 is not listed" (asking_of 0x16 (bytes "11223344")) AsksNothing refl
-    ∷ that "1F is not listed" (asking_of 0x1_f (bytes "11223344")) AsksNothing refl
+    ∷ that "1F is not listed" (asking_of 0x1F (bytes "11223344")) AsksNothing refl
     ∷ that "25 is not listed" (asking_of 0x25 (bytes "11223344")) AsksNothing refl
-    ∷ that "FF is not listed" (asking_of 0x_f_f (bytes "11223344")) AsksNothing refl
+    ∷ that "FF is not listed" (asking_of 0xFF (bytes "11223344")) AsksNothing refl
     ∷ []
 
 -- ---- the bytes that go with a request
@@ -132,8 +132,8 @@ numbers =
     ∷ that "the greatest of four" (long_at (bytes "FFFFFFFF") 0) 4294967295 refl
     ∷ that "a byte that is not there counts as 0" (word_at (bytes "11") 0) 0x1100 refl
     ∷ that "SideCount 0" (extended 0x0000) 0 refl
-    ∷ that "SideCount 32,767" (extended 0x7_f_f_f) 32767 refl
-    ∷ that "SideCount −32,768" (extended 0x8000) 0x_f_f_f_f8000 refl
-    ∷ that "SideCount −2" (extended 0x_f_f_f_e) minus_two refl
-    ∷ that "SideCount −1" (extended 0x_f_f_f_f) minus_one refl
+    ∷ that "SideCount 32,767" (extended 0x7FFF) 32767 refl
+    ∷ that "SideCount −32,768" (extended 0x8000) 0xFFFF8000 refl
+    ∷ that "SideCount −2" (extended 0xFFFE) minus_two refl
+    ∷ that "SideCount −1" (extended 0xFFFF) minus_one refl
     ∷ []

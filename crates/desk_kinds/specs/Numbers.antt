@@ -18,4 +18,4 @@ long_at s i = big_endian 4 (drop i s)
 
 -- the 16 bits of SideCount's two's complement, as the 32 that the record keeps: from 0x8000 on the number is below 0
 abbrev pub extended : ℕ → ℕ
-extended c = cond (ltb c 0x8000) c (c + 0x_f_f_f_f0000)
+extended c = cond (ltb c 0x8000) c (c + 0xFFFF0000)

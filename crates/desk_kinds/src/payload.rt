@@ -12,7 +12,7 @@ use answers::Request;
 const SIGN: u32 = 0x8000;
 
 // The bits that a number below 0 has above them.
-const ABOVE: u32 = 0x_f_f_f_f0000;
+const ABOVE: u32 = 0xFFFF0000;
 
 // SideCount's 16 bits as the 32 that the record keeps.
 fn extend(c: u16) -> u32

@@ -34,7 +34,7 @@ unfolding last_digits text
 counts =
     that "0" (count_text 0) (text "0") refl
     ∷ that "999" (count_text 999) (text "999") refl
-    ∷ that "the greatest" (count_text 0x7_f_f_f_f_f_f_f) (text "2147483647") refl
+    ∷ that "the greatest" (count_text 0x7FFFFFFF) (text "2147483647") refl
     ∷ that "the least" (count_text 0x80000000) (text "-2147483648") refl
     ∷ that "−2" (count_text minus_two) (text "-2") refl
     ∷ that "−1" (count_text minus_one) (text "-1") refl
@@ -72,7 +72,7 @@ told s f count = box (scanner s Timeout) (job 31 34 97 40 43) (side 46 count 52)
 pub lines : List (Case (List ℕ))
 unfolding line_of last_digits hexes text
 lines =
-    that "accepted" (line_of 0x1_a 0 (time 23) (told Scanning Busy 49)) (text "1A 0 S B 31 46 49 23\n") refl
+    that "accepted" (line_of 0x1A 0 (time 23) (told Scanning Busy 49)) (text "1A 0 S B 31 46 49 23\n") refl
     ∷ that "refused" (line_of 0x24 711 nothing (told Pending Loaded 49)) (text "24 711 P L 31 46 49 -\n") refl
     ∷ that "SideCount −1" (line_of 0x02 0 nothing (told Finishing Unloaded minus_one)) (text "02 0 F U 31 46 -1 -\n") refl
     ∷ that "both Erred" (line_of 0x07 0 (state Erred Timeout) (told Erred Stuck 8)) (text "07 0 E E 31 46 8 Timeout\n") refl

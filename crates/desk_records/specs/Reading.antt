@@ -8,10 +8,10 @@ use Rattle.desk_records.specs.declared.Reading.{Reading}
 
 -- mark A5 5A; the second byte and the width of the length make the form
 abbrev pub first_mark : ℕ
-first_mark = 0x_a5
+first_mark = 0xA5
 
 abbrev pub second_mark : ℕ
-second_mark = 0x5_a
+second_mark = 0x5A
 
 abbrev pub length_width : ℕ
 length_width = 1

@@ -6,10 +6,10 @@ use answers::{Request, Why};
 pub mod read;
 pub mod write;
 
-const FIRST_MARK: u8 = 0x_a5;
+const FIRST_MARK: u8 = 0xA5;
 
 // The form of the desk's records: the second byte of the mark, and the width of the length.
-const MARK: u8 = 0x5_a;
+const MARK: u8 = 0x5A;
 
 const WIDTH: usize = 1;
 

@@ -178,10 +178,10 @@ unfolding performs
 of_records =
     that "accepted" (performs (kept fresh) (bytes "A55A 24 00") false 640) (0 ∷ 4 ∷ 17 ∷ 0 ∷ []) refl
     ∷ that "refused" (performs (kept fresh) (bytes "A55A 21 00") false 640) (501 ∷ 4 ∷ 19 ∷ 0 ∷ []) refl
-    ∷ that "bad, whatever may follow" (performs (kept fresh) (bytes "A55B") false 640) (0x_f_f_f_f ∷ 0 ∷ 6 ∷ 1 ∷ []) refl
-    ∷ that "only cut, more may come" (performs (kept fresh) (bytes "A55A 24") false 640) (0x_f_f_f_f ∷ 0 ∷ 0 ∷ 0 ∷ []) refl
-    ∷ that "cut, and all there is" (performs (kept fresh) (bytes "A55A 24") true 640) (0x_f_f_f_f ∷ 0 ∷ 6 ∷ 1 ∷ []) refl
-    ∷ that "nothing yet" (performs (kept fresh) [] false 640) (0x_f_f_f_f ∷ 0 ∷ 0 ∷ 0 ∷ []) refl
+    ∷ that "bad, whatever may follow" (performs (kept fresh) (bytes "A55B") false 640) (0xFFFF ∷ 0 ∷ 6 ∷ 1 ∷ []) refl
+    ∷ that "only cut, more may come" (performs (kept fresh) (bytes "A55A 24") false 640) (0xFFFF ∷ 0 ∷ 0 ∷ 0 ∷ []) refl
+    ∷ that "cut, and all there is" (performs (kept fresh) (bytes "A55A 24") true 640) (0xFFFF ∷ 0 ∷ 6 ∷ 1 ∷ []) refl
+    ∷ that "nothing yet" (performs (kept fresh) [] false 640) (0xFFFF ∷ 0 ∷ 0 ∷ 0 ∷ []) refl
     ∷ that "a byte too little for a line" (performs (kept fresh) (bytes "A55A 24 00") false 639) (603 ∷ 0 ∷ 0 ∷ 0 ∷ []) refl
     ∷ that "no box: before all else" (performs (replicate 19 0) (bytes "A55B") false 639) (604 ∷ 0 ∷ 0 ∷ 0 ∷ []) refl
     ∷ []

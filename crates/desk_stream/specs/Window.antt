@@ -21,7 +21,7 @@ pub record Piece : Type 0 where
 
 -- where no record reads: no number of the paper, and not 0, which is acceptance
 abbrev pub no_record : ℕ
-no_record = 0x_f_f_f_f
+no_record = 0xFFFF
 
 -- an answered record has its size and its line
 abbrev pub answered_by : ℕ → Outcome → ℕ → Piece

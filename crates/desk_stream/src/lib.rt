@@ -27,7 +27,7 @@ pub const UNSOUND: u16 = 604;
 const NO_ROOM: u16 = 603;
 
 // The number where no record reads: none of the paper's, and not acceptance.
-const NO_RECORD: u16 = 0x_f_f_f_f;
+const NO_RECORD: u16 = 0xFFFF;
 
 // What came of a record, or of a window of them: the number, how far the input is read, how much text stands in the lines, and
 // whether a bad record was met.

@@ -10,7 +10,7 @@ use Rattle.desk_text.specs.Literal.{text, bytes}
 pub literals : List (Case (List ℕ))
 unfolding bytes
 literals =
-    that "every digit" (bytes "0123 4567 89AB CDEF") (0x01 ∷ 0x23 ∷ 0x45 ∷ 0x67 ∷ 0x89 ∷ 0x_a_b ∷ 0x_c_d ∷ 0x_e_f ∷ []) refl
+    that "every digit" (bytes "0123 4567 89AB CDEF") (0x01 ∷ 0x23 ∷ 0x45 ∷ 0x67 ∷ 0x89 ∷ 0xAB ∷ 0xCD ∷ 0xEF ∷ []) refl
     ∷ that "none" (bytes "") [] refl
     ∷ that "signs, digits, letters" (text "-!: 09AZaz\n") (45 ∷ 33 ∷ 58 ∷ 32 ∷ 48 ∷ 57 ∷ 65 ∷ 90 ∷ 97 ∷ 122 ∷ 10 ∷ []) refl
     ∷ []
@@ -34,12 +34,12 @@ unfolding hexes text
 hex_texts =
     that "00" (hex_byte 0x00) (text "00") refl
     ∷ that "09" (hex_byte 0x09) (text "09") refl
-    ∷ that "0A" (hex_byte 0x0_a) (text "0A") refl
-    ∷ that "9F" (hex_byte 0x9_f) (text "9F") refl
-    ∷ that "A0" (hex_byte 0x_a0) (text "A0") refl
-    ∷ that "FF" (hex_byte 0x_f_f) (text "FF") refl
+    ∷ that "0A" (hex_byte 0x0A) (text "0A") refl
+    ∷ that "9F" (hex_byte 0x9F) (text "9F") refl
+    ∷ that "A0" (hex_byte 0xA0) (text "A0") refl
+    ∷ that "FF" (hex_byte 0xFF) (text "FF") refl
     ∷ that "no bytes" (hexes []) (text "") refl
-    ∷ that "every digit" (hexes (0x01 ∷ 0x23 ∷ 0x45 ∷ 0x67 ∷ 0x89 ∷ 0x_a_b ∷ 0x_c_d ∷ 0x_e_f ∷ [])) (text "0123456789ABCDEF") refl
+    ∷ that "every digit" (hexes (0x01 ∷ 0x23 ∷ 0x45 ∷ 0x67 ∷ 0x89 ∷ 0xAB ∷ 0xCD ∷ 0xEF ∷ [])) (text "0123456789ABCDEF") refl
     ∷ []
 
 -- ---- a text put at a place of a lent buffer, as far as there is room

@@ -28,7 +28,7 @@ use Rattle.fetch.specs.Reply.{reply_with, noted}
 -- ---- the reply
 -- with the first three bytes of the head, and the part behind the head that is lent
 abbrev pub marked : List ℕ → List ℕ
-marked l = set (set (set l 0 0x_a5) 1 0x5_a) 2 0x06
+marked l = set (set (set l 0 0xA5) 1 0x5A) 2 0x06
 
 abbrev pub behind : List ℕ → List ℕ
 behind l = take (length (marked l) - headed) (drop headed (marked l))
@@ -66,7 +66,7 @@ reply-made ring (a ∷ b ∷ c ∷ []) part start want k h e p = absurd (omega a
 reply-made ring (a ∷ b ∷ c ∷ d ∷ rest) part start want k h e p =
     let l : List ℕ = a ∷ b ∷ c ∷ d ∷ rest in
     let all : length (marked l) - headed ≡ length rest = omega arith in
-    ap (λ (t : List ℕ). 0x_a5 ∷ 0x5_a ∷ 0x06 ∷ k ∷ t)
+    ap (λ (t : List ℕ). 0xA5 ∷ 0x5A ∷ 0x06 ∷ k ∷ t)
     (ap (λ (n : ℕ). part ++ drop n rest) all
     ∙ ap (λ (t : List ℕ). part ++ t) (drop-length rest)
     ∙ append-nil part

@@ -8,7 +8,7 @@ use Rattle.answers.specs.declared.After.{After}
 
 -- the head A5 5A 06 k, then the picture bytes; later bytes stay
 unfoldable pub reply_with : List ℕ → ℕ → ℕ → List ℕ → List ℕ
-reply_with ring start k reply = 0x_a5 ∷ 0x5_a ∷ 0x06 ∷ k ∷ queue ring start k ++ drop (headed + k) reply
+reply_with ring start k reply = 0xA5 ∷ 0x5A ∷ 0x06 ∷ k ∷ queue ring start k ++ drop (headed + k) reply
 
 -- the record after k bytes were moved out of a ring of n bytes, and what is said of it
 unfoldable pub noted : ℕ → ℕ → Record → After

@@ -39,8 +39,8 @@ fn move_out(ring: &[u8], start: usize, want: usize, reply: &mut [u8]) -> usize
     ensures value { result ≡ goes_out (length ring.now) start want (length reply.old - 4) }
     ensures reply_after { reply.new ≡ reply_with ring.now start result reply.old }
 {
-    reply[0] = 0x_a5;
-    reply[1] = 0x5_a;
+    reply[0] = 0xA5;
+    reply[1] = 0x5A;
     reply[2] = 0x06;
     let k = ring::take_out(ring, start, want, &mut reply[4..]);
     reply[3] = k as u8;

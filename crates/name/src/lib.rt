@@ -68,12 +68,12 @@ fn joined(a: u16, b: u16, c: u16, d: u16) -> u64
     a as u64 * 281474976710656 + b as u64 * 4294967296 + c as u64 * 65536 + d as u64
 }
 
-// J and the first seven digits of a job; 0x4_a30 is J0.
+// J and the first seven digits of a job; 0x4A30 is J0.
 fn front(job: u32) -> u64
     ensures { result ≡ packed (74 ∷ digit_of job 1000000000 ∷ digit_of job 100000000 ∷ digit_of job 10000000 ∷ digit_of job 1000000
         ∷ digit_of job 100000 ∷ digit_of job 10000 ∷ digit_of job 1000 ∷ []) }
 {
-    let high = 0x4_a30 + (job / 1000000000) as u16;
+    let high = 0x4A30 + (job / 1000000000) as u16;
     joined(
         high,
         pair(job / 10000000),
@@ -82,7 +82,7 @@ fn front(job: u32) -> u64
     )
 }
 
-// A name as the record keeps it: its bytes in three numbers, two digits at a time. 0x2_e6_a is .j, 0x7067 pg, 0x6_a70 jp.
+// A name as the record keeps it: its bytes in three numbers, two digits at a time. 0x2E6A is .j, 0x7067 pg, 0x6A70 jp.
 pub fn kept(job: u32, append: u8, number: u16) -> Named
     ensures { result ≡ spelt (name_of job append number) }
 {
@@ -94,14 +94,14 @@ pub fn kept(job: u32, append: u8, number: u16) -> Named
         let hundreds = digit(side / 100) as u16;
         return Named {
             first,
-            second: joined(next, last + hundreds, pair(side), 0x2_e6_a),
+            second: joined(next, last + hundreds, pair(side), 0x2E6A),
             third: 0x7067,
             len: 18,
         };
     }
     Named {
         first,
-        second: joined(next, last + 0x2_e, 0x6_a70, 0x6700),
+        second: joined(next, last + 0x2E, 0x6A70, 0x6700),
         third: 0,
         len: 15,
     }

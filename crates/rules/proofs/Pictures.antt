@@ -270,7 +270,7 @@ replied s c =
     go (scan (Fetch called most reply)) =
         let k = least s.box.ring.stored most (length reply) in
         let q = queue s.bytes s.box.ring.start k in
-        subst (λ (n : ℕ). Replied reply q (0x_a5 ∷ 0x5_a ∷ 0x06 ∷ n ∷ q ++ drop (4 + n) reply)) (length-queue s.bytes s.box.ring.start k) (written q)
+        subst (λ (n : ℕ). Replied reply q (0xA5 ∷ 0x5A ∷ 0x06 ∷ n ∷ q ++ drop (4 + n) reply)) (length-queue s.bytes s.box.ring.start k) (written q)
     go (scan GetState) = as_lent
     go (scan GetSideInformation) = as_lent
     go (feeder (Load j)) = as_lent

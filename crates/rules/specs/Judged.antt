@@ -336,52 +336,52 @@ names_judged =
     ∷ judged "Erred: no last name" 5
     (called_last no_name (box (scanner Erred Timeout) (job 41 41 77 13 0) (side 6 8 90) (settings 1 1) (feed Stuck Jammed 0 1) (ring 3 0))) false refl
     ∷ judged "Pending: bytes 1 to 8 one too high" 5
-    (called_last (kept 0x4_a30303030303031 0x3034313030362_e6_a 0x7067 18)
+    (called_last (kept 0x4A30303030303031 0x3034313030362E6A 0x7067 18)
     (box (scanner Pending Timeout) (job 41 41 77 13 0) (side 6 8 90) (settings 1 1) (feed Loaded Jammed 1 0) (ring 3 0))) false refl
     ∷ judged "Pending: bytes 9 to 16 one too high" 5
-    (called_last (kept 0x4_a30303030303030 0x3034313030362_e6_b 0x7067 18)
+    (called_last (kept 0x4A30303030303030 0x3034313030362E6B 0x7067 18)
     (box (scanner Pending Timeout) (job 41 41 77 13 0) (side 6 8 90) (settings 1 1) (feed Loaded Jammed 1 0) (ring 3 0))) false refl
     ∷ judged "Pending: bytes 17 and 18 one too high" 5
-    (called_last (kept 0x4_a30303030303030 0x3034313030362_e6_a 0x7068 18)
+    (called_last (kept 0x4A30303030303030 0x3034313030362E6A 0x7068 18)
     (box (scanner Pending Timeout) (job 41 41 77 13 0) (side 6 8 90) (settings 1 1) (feed Loaded Jammed 1 0) (ring 3 0))) false refl
     ∷ judged "Pending: the length one too high" 5
-    (called_last (kept 0x4_a30303030303030 0x3034313030362_e6_a 0x7067 19)
+    (called_last (kept 0x4A30303030303030 0x3034313030362E6A 0x7067 19)
     (box (scanner Pending Timeout) (job 41 41 77 13 0) (side 6 8 90) (settings 1 1) (feed Loaded Jammed 1 0) (ring 3 0))) false refl
     ∷ judged "Scanning: bytes 1 to 8 one too low" 5
-    (called_last (kept 0x4_a3030303030302_f 0x3034313030362_e6_a 0x7067 18)
+    (called_last (kept 0x4A3030303030302F 0x3034313030362E6A 0x7067 18)
     (box (scanner Scanning Timeout) (job 41 41 77 13 0) (side 6 8 90) (settings 1 1) (feed Busy Jammed 1 0) (ring 3 4))) false refl
     ∷ judged "Scanning: bytes 9 to 16 one too low" 5
-    (called_last (kept 0x4_a30303030303030 0x3034313030362_e69 0x7067 18)
+    (called_last (kept 0x4A30303030303030 0x3034313030362E69 0x7067 18)
     (box (scanner Scanning Timeout) (job 41 41 77 13 0) (side 6 8 90) (settings 1 1) (feed Busy Jammed 1 0) (ring 3 4))) false refl
     ∷ judged "Scanning: bytes 17 and 18 one too low" 5
-    (called_last (kept 0x4_a30303030303030 0x3034313030362_e6_a 0x7066 18)
+    (called_last (kept 0x4A30303030303030 0x3034313030362E6A 0x7066 18)
     (box (scanner Scanning Timeout) (job 41 41 77 13 0) (side 6 8 90) (settings 1 1) (feed Busy Jammed 1 0) (ring 3 4))) false refl
     ∷ judged "Scanning: the length one too low" 5
-    (called_last (kept 0x4_a30303030303030 0x3034313030362_e6_a 0x7067 17)
+    (called_last (kept 0x4A30303030303030 0x3034313030362E6A 0x7067 17)
     (box (scanner Scanning Timeout) (job 41 41 77 13 0) (side 6 8 90) (settings 1 1) (feed Busy Jammed 1 0) (ring 3 4))) false refl
     ∷ judged "Finishing: bytes 1 to 8 one too high" 5
-    (called_last (kept 0x4_a30303030303031 0x3034313030362_e6_a 0x7067 18)
+    (called_last (kept 0x4A30303030303031 0x3034313030362E6A 0x7067 18)
     (box (scanner Finishing Timeout) (job 41 41 77 13 0) (side 6 8 90) (settings 1 1) (feed Loaded Jammed 1 0) (ring 3 4))) false refl
     ∷ judged "Finishing: bytes 9 to 16 one too high" 5
-    (called_last (kept 0x4_a30303030303030 0x3034313030362_e6_b 0x7067 18)
+    (called_last (kept 0x4A30303030303030 0x3034313030362E6B 0x7067 18)
     (box (scanner Finishing Timeout) (job 41 41 77 13 0) (side 6 8 90) (settings 1 1) (feed Loaded Jammed 1 0) (ring 3 4))) false refl
     ∷ judged "Finishing: bytes 17 and 18 one too high" 5
-    (called_last (kept 0x4_a30303030303030 0x3034313030362_e6_a 0x7068 18)
+    (called_last (kept 0x4A30303030303030 0x3034313030362E6A 0x7068 18)
     (box (scanner Finishing Timeout) (job 41 41 77 13 0) (side 6 8 90) (settings 1 1) (feed Loaded Jammed 1 0) (ring 3 4))) false refl
     ∷ judged "Finishing: the length one too high" 5
-    (called_last (kept 0x4_a30303030303030 0x3034313030362_e6_a 0x7067 19)
+    (called_last (kept 0x4A30303030303030 0x3034313030362E6A 0x7067 19)
     (box (scanner Finishing Timeout) (job 41 41 77 13 0) (side 6 8 90) (settings 1 1) (feed Loaded Jammed 1 0) (ring 3 4))) false refl
     ∷ judged "Erred: bytes 1 to 8 one too low" 5
-    (called_last (kept 0x4_a3030303030302_f 0x3034313030362_e6_a 0x7067 18)
+    (called_last (kept 0x4A3030303030302F 0x3034313030362E6A 0x7067 18)
     (box (scanner Erred Timeout) (job 41 41 77 13 0) (side 6 8 90) (settings 1 1) (feed Stuck Jammed 0 1) (ring 3 0))) false refl
     ∷ judged "Erred: bytes 9 to 16 one too low" 5
-    (called_last (kept 0x4_a30303030303030 0x3034313030362_e69 0x7067 18)
+    (called_last (kept 0x4A30303030303030 0x3034313030362E69 0x7067 18)
     (box (scanner Erred Timeout) (job 41 41 77 13 0) (side 6 8 90) (settings 1 1) (feed Stuck Jammed 0 1) (ring 3 0))) false refl
     ∷ judged "Erred: bytes 17 and 18 one too low" 5
-    (called_last (kept 0x4_a30303030303030 0x3034313030362_e6_a 0x7066 18)
+    (called_last (kept 0x4A30303030303030 0x3034313030362E6A 0x7066 18)
     (box (scanner Erred Timeout) (job 41 41 77 13 0) (side 6 8 90) (settings 1 1) (feed Stuck Jammed 0 1) (ring 3 0))) false refl
     ∷ judged "Erred: the length one too low" 5
-    (called_last (kept 0x4_a30303030303030 0x3034313030362_e6_a 0x7067 17)
+    (called_last (kept 0x4A30303030303030 0x3034313030362E6A 0x7067 17)
     (box (scanner Erred Timeout) (job 41 41 77 13 0) (side 6 8 90) (settings 1 1) (feed Stuck Jammed 0 1) (ring 3 0))) false refl
     ∷ judged "Idle: the last job's name" 5
     (called_last k41-006 (box (scanner Idle Timeout) (job 0 41 77 0 0) (side 1 0 90) (settings 1 1) (feed Loaded Jammed 1 0) (ring 3 0))) true refl
@@ -392,7 +392,7 @@ names_judged =
     ∷ judged "Idle: what is no name" 5
     (called_last (kept 73 76 79 82) (box (scanner Idle Timeout) (job 0 41 77 0 0) (side 1 0 90) (settings 1 0) (feed Loaded Jammed 1 0) (ring 3 0))) true refl
     ∷ judged "Idle: the greatest numbers" 5
-    (called_last (kept 0x_f_f_f_f_f_f_f_f_f_f_f_f_f_f_f_f 0x_f_f_f_f_f_f_f_f_f_f_f_f_f_f_f_f 0x_f_f_f_f 0x_f_f)
+    (called_last (kept 0xFFFFFFFFFFFFFFFF 0xFFFFFFFFFFFFFFFF 0xFFFF 0xFF)
     (box (scanner Idle Timeout) (job 0 41 77 0 0) (side 1 0 90) (settings 1 1) (feed Loaded Jammed 1 0) (ring 3 0))) true refl
     ∷ []
 
@@ -502,15 +502,15 @@ pub spellings : List (Case Named)
 unfolding final
 spellings =
     that "no name" (spelt []) (kept 0 0 0 0) refl
-    ∷ that "a job's" (spelt j41) (kept 0x4_a30303030303030 0x3034312_e6_a706700 0 15) refl
-    ∷ that "a side's" (spelt j41-006) (kept 0x4_a30303030303030 0x3034313030362_e6_a 0x7067 18) refl
-    ∷ that "the greatest" (spelt j4294967295-999) (kept 0x4_a34323934393637 0x3239353939392_e6_a 0x7067 18) refl
+    ∷ that "a job's" (spelt j41) (kept 0x4A30303030303030 0x3034312E6A706700 0 15) refl
+    ∷ that "a side's" (spelt j41-006) (kept 0x4A30303030303030 0x3034313030362E6A 0x7067 18) refl
+    ∷ that "the greatest" (spelt j4294967295-999) (kept 0x4A34323934393637 0x3239353939392E6A 0x7067 18) refl
     ∷ that "one byte" (spelt (1 ∷ [])) (kept 0x0100000000000000 0 0 1) refl
     ∷ that "nine bytes" (spelt (1 ∷ 2 ∷ 3 ∷ 4 ∷ 5 ∷ 6 ∷ 7 ∷ 8 ∷ 9 ∷ [])) (kept 0x0102030405060708 0x0900000000000000 0 9) refl
     ∷ that "seventeen bytes" (spelt (1 ∷ 2 ∷ 3 ∷ 4 ∷ 5 ∷ 6 ∷ 7 ∷ 8 ∷ 9 ∷ 10 ∷ 11 ∷ 12 ∷ 13 ∷ 14 ∷ 15 ∷ 16 ∷ 17 ∷ []))
-    (kept 0x0102030405060708 0x090_a0_b0_c0_d0_e0_f10 0x1100 17) refl
+    (kept 0x0102030405060708 0x090A0B0C0D0E0F10 0x1100 17) refl
     ∷ that "eighteen bytes" (spelt (1 ∷ 2 ∷ 3 ∷ 4 ∷ 5 ∷ 6 ∷ 7 ∷ 8 ∷ 9 ∷ 10 ∷ 11 ∷ 12 ∷ 13 ∷ 14 ∷ 15 ∷ 16 ∷ 17 ∷ 18 ∷ []))
-    (kept 0x0102030405060708 0x090_a0_b0_c0_d0_e0_f10 0x1112 18) refl
+    (kept 0x0102030405060708 0x090A0B0C0D0E0F10 0x1112 18) refl
     ∷ that "the present name" (present (box (scanner Pending Timeout) (job 1 2 3 4 5) (side 2 6 7) (settings 8 1) (feed Loaded Jammed 9 10) (ring 11 12)))
     k1-002 refl
     ∷ []

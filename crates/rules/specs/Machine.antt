@@ -111,7 +111,7 @@ scan_effect (Fetch called most reply) s =
       number = 0;
       values = picture k (last k r) bytes;
       state = to (fetched k (length s.bytes) r) s;
-      reply = 0x_a5 ∷ 0x5_a ∷ 0x06 ∷ k ∷ bytes ++ drop (headed + k) reply;
+      reply = 0xA5 ∷ 0x5A ∷ 0x06 ∷ k ∷ bytes ++ drop (headed + k) reply;
     }
 scan_effect GetState s = accepted (state s.box.scanner.state s.box.scanner.failure) s.box s
 scan_effect GetSideInformation s = accepted (sides s.box.side.number s.box.side.count (scan_length s.box)) s.box s

@@ -157,7 +157,7 @@ pub record FollowsName (w : World) (c : Call) : Type 0 where
 -- a reply at exit with these bytes in it: as it was lent where there are none, or the head, the bytes, and then as it was lent
 pub data Replied (was : List ℕ) : List ℕ → List ℕ → Type 0 where
   as_lent : Replied was [] was
-  written : (bytes : List ℕ) → Replied was bytes (0x_a5 ∷ 0x5_a ∷ 0x06 ∷ length bytes ∷ bytes ++ drop (4 + length bytes) was)
+  written : (bytes : List ℕ) → Replied was bytes (0xA5 ∷ 0x5A ∷ 0x06 ∷ length bytes ∷ bytes ++ drop (4 + length bytes) was)
 
 -- what a call reports, and what stands in its reply, are the first k of those that wait: bytes that stand together among all
 -- the accepted ones, in order, and P holds of each

@@ -491,7 +491,7 @@ byte_reports =
     (boxed (box (scanner Scanning Timeout) (job 41 41 77 13 0) (side 6 1 90) (settings 0 1) (feed Loaded Jammed 1 0) (ring 0 1)) (71 ∷ []))
     (scan (Fetch j41-006 255 nine))
     (out 0 (picture 1 false (71 ∷ [])) (box (scanner Scanning Timeout) (job 41 41 77 0 0) (side 6 1 90) (settings 0 1) (feed Loaded Jammed 1 0) (ring 0 0))
-    (71 ∷ []) (0x_a5 ∷ 0x5_a ∷ 0x06 ∷ 1 ∷ 71 ∷ 66 ∷ 67 ∷ 68 ∷ 69 ∷ [])) refl
+    (71 ∷ []) (0xA5 ∷ 0x5A ∷ 0x06 ∷ 1 ∷ 71 ∷ 66 ∷ 67 ∷ 68 ∷ 69 ∷ [])) refl
     ∷ []
 
 -- ---- Side ended: Busy becomes Unloaded, a positive SideCount falls by one, −1 stays; Finishing, quiet 0; the ring stays
@@ -813,38 +813,38 @@ destinations =
     ∷ case "no last name at all" (resting_after no_name (settings 1 0) (feed Loaded Jammed 1 0)) (scan (StartScan 0 0 1 123))
     (taking (time 123)
     (called_last k42-001 (box (scanner Pending None) (job 42 42 123 0 0) (side 1 0 91) (settings 0 1) (feed Loaded Jammed 1 0) (ring 3 0)))) refl
-    ∷ case "the last name differs in byte 1" (resting_after (kept 0x4_b30303030303030 0x3034323030312_e6_a 0x7067 18) (settings 1 0) (feed Loaded Jammed 1 0))
+    ∷ case "the last name differs in byte 1" (resting_after (kept 0x4B30303030303030 0x3034323030312E6A 0x7067 18) (settings 1 0) (feed Loaded Jammed 1 0))
     (scan (StartScan 0 0 1 123))
     (taking (time 123)
     (called_last k42-001 (box (scanner Pending None) (job 42 42 123 0 0) (side 1 0 91) (settings 0 1) (feed Loaded Jammed 1 0) (ring 3 0)))) refl
-    ∷ case "the last name differs in byte 8" (resting_after (kept 0x4_a30303030303031 0x3034323030312_e6_a 0x7067 18) (settings 1 0) (feed Loaded Jammed 1 0))
+    ∷ case "the last name differs in byte 8" (resting_after (kept 0x4A30303030303031 0x3034323030312E6A 0x7067 18) (settings 1 0) (feed Loaded Jammed 1 0))
     (scan (StartScan 0 0 1 123))
     (taking (time 123)
     (called_last k42-001 (box (scanner Pending None) (job 42 42 123 0 0) (side 1 0 91) (settings 0 1) (feed Loaded Jammed 1 0) (ring 3 0)))) refl
-    ∷ case "the last name differs in byte 9" (resting_after (kept 0x4_a30303030303030 0x3134323030312_e6_a 0x7067 18) (settings 1 0) (feed Loaded Jammed 1 0))
+    ∷ case "the last name differs in byte 9" (resting_after (kept 0x4A30303030303030 0x3134323030312E6A 0x7067 18) (settings 1 0) (feed Loaded Jammed 1 0))
     (scan (StartScan 0 0 1 123))
     (taking (time 123)
     (called_last k42-001 (box (scanner Pending None) (job 42 42 123 0 0) (side 1 0 91) (settings 0 1) (feed Loaded Jammed 1 0) (ring 3 0)))) refl
-    ∷ case "the last name differs in byte 16" (resting_after (kept 0x4_a30303030303030 0x3034323030312_e6_b 0x7067 18) (settings 1 0) (feed Loaded Jammed 1 0))
+    ∷ case "the last name differs in byte 16" (resting_after (kept 0x4A30303030303030 0x3034323030312E6B 0x7067 18) (settings 1 0) (feed Loaded Jammed 1 0))
     (scan (StartScan 0 0 1 123))
     (taking (time 123)
     (called_last k42-001 (box (scanner Pending None) (job 42 42 123 0 0) (side 1 0 91) (settings 0 1) (feed Loaded Jammed 1 0) (ring 3 0)))) refl
-    ∷ case "the last name differs in byte 17" (resting_after (kept 0x4_a30303030303030 0x3034323030312_e6_a 0x7167 18) (settings 1 0) (feed Loaded Jammed 1 0))
+    ∷ case "the last name differs in byte 17" (resting_after (kept 0x4A30303030303030 0x3034323030312E6A 0x7167 18) (settings 1 0) (feed Loaded Jammed 1 0))
     (scan (StartScan 0 0 1 123))
     (taking (time 123)
     (called_last k42-001 (box (scanner Pending None) (job 42 42 123 0 0) (side 1 0 91) (settings 0 1) (feed Loaded Jammed 1 0) (ring 3 0)))) refl
-    ∷ case "the last name differs in byte 18" (resting_after (kept 0x4_a30303030303030 0x3034323030312_e6_a 0x7068 18) (settings 1 0) (feed Loaded Jammed 1 0))
+    ∷ case "the last name differs in byte 18" (resting_after (kept 0x4A30303030303030 0x3034323030312E6A 0x7068 18) (settings 1 0) (feed Loaded Jammed 1 0))
     (scan (StartScan 0 0 1 123))
     (taking (time 123)
     (called_last k42-001 (box (scanner Pending None) (job 42 42 123 0 0) (side 1 0 91) (settings 0 1) (feed Loaded Jammed 1 0) (ring 3 0)))) refl
-    ∷ case "the last name has another length" (resting_after (kept 0x4_a30303030303030 0x3034323030312_e6_a 0x7067 17) (settings 1 0) (feed Loaded Jammed 1 0))
+    ∷ case "the last name has another length" (resting_after (kept 0x4A30303030303030 0x3034323030312E6A 0x7067 17) (settings 1 0) (feed Loaded Jammed 1 0))
     (scan (StartScan 0 0 1 123))
     (taking (time 123)
     (called_last k42-001 (box (scanner Pending None) (job 42 42 123 0 0) (side 1 0 91) (settings 0 1) (feed Loaded Jammed 1 0) (ring 3 0)))) refl
-    ∷ case "the same without Append" (resting_after (kept 0x4_a30303030303030 0x3034322_e6_a706700 0 16) (settings 1 1) (feed Loaded Jammed 1 0))
+    ∷ case "the same without Append" (resting_after (kept 0x4A30303030303030 0x3034322E6A706700 0 16) (settings 1 1) (feed Loaded Jammed 1 0))
     (scan (StartScan 0 0 0 123))
     (taking (time 123) (called_last k42 (box (scanner Pending None) (job 42 42 123 0 0) (side 1 0 91) (settings 0 0) (feed Loaded Jammed 1 0) (ring 3 0)))) refl
-    ∷ case "the last name has a byte behind its length" (resting_after (kept 0x4_a30303030303030 0x3034322_e6_a706700 1 15) (settings 1 1) (feed Loaded Jammed 1 0))
+    ∷ case "the last name has a byte behind its length" (resting_after (kept 0x4A30303030303030 0x3034322E6A706700 1 15) (settings 1 1) (feed Loaded Jammed 1 0))
     (scan (StartScan 0 0 0 123))
     (taking (time 123) (called_last k42 (box (scanner Pending None) (job 42 42 123 0 0) (side 1 0 91) (settings 0 0) (feed Loaded Jammed 1 0) (ring 3 0)))) refl
     ∷ case "4,294,967,295 goes to 0 with SideCount 0 too"
@@ -1266,7 +1266,7 @@ two_jobs =
     (71 ∷ 72 ∷ 73 ∷ 24 ∷ 25 ∷ []) [])
     ∷ turn (scan (Fetch j1-001 255 nine))
     (out 0 (picture 3 true (71 ∷ 72 ∷ 73 ∷ [])) (box (scanner Scanning None) (job 1 1 50 0 0) (side 2 1 2) (settings 1 1) (feed Busy None 1 0) (ring 3 0))
-    (71 ∷ 72 ∷ 73 ∷ 24 ∷ 25 ∷ []) (0x_a5 ∷ 0x5_a ∷ 0x06 ∷ 3 ∷ 71 ∷ 72 ∷ 73 ∷ 68 ∷ 69 ∷ []))
+    (71 ∷ 72 ∷ 73 ∷ 24 ∷ 25 ∷ []) (0xA5 ∷ 0x5A ∷ 0x06 ∷ 3 ∷ 71 ∷ 72 ∷ 73 ∷ 68 ∷ 69 ∷ []))
     ∷ turn (report Tick)
     (out 0 nothing (box (scanner Scanning None) (job 1 1 50 1 0) (side 2 1 2) (settings 1 1) (feed Busy None 1 0) (ring 3 0))
     (71 ∷ 72 ∷ 73 ∷ 24 ∷ 25 ∷ []) [])
@@ -1282,11 +1282,11 @@ two_jobs =
     ∷ turn (scan (Fetch j1-002 3 nine))
     (out 0 (picture 3 false (81 ∷ 82 ∷ 83 ∷ []))
     (box (scanner Finishing None) (job 1 1 50 0 1) (side 2 0 2) (settings 1 1) (feed Unloaded None 1 0) (ring 1 1))
-    (83 ∷ 84 ∷ 73 ∷ 81 ∷ 82 ∷ []) (0x_a5 ∷ 0x5_a ∷ 0x06 ∷ 3 ∷ 81 ∷ 82 ∷ 83 ∷ 68 ∷ 69 ∷ []))
+    (83 ∷ 84 ∷ 73 ∷ 81 ∷ 82 ∷ []) (0xA5 ∷ 0x5A ∷ 0x06 ∷ 3 ∷ 81 ∷ 82 ∷ 83 ∷ 68 ∷ 69 ∷ []))
     ∷ turn (scan (Fetch j1-002 3 nine))
     (out 0 (picture 1 true (84 ∷ []))
     (called_last k1-002 (box (scanner Idle None) (job 0 1 50 0 0) (side 1 0 2) (settings 1 1) (feed Unloaded None 1 0) (ring 0 0)))
-    (83 ∷ 84 ∷ 73 ∷ 81 ∷ 82 ∷ []) (0x_a5 ∷ 0x5_a ∷ 0x06 ∷ 1 ∷ 84 ∷ 66 ∷ 67 ∷ 68 ∷ 69 ∷ []))
+    (83 ∷ 84 ∷ 73 ∷ 81 ∷ 82 ∷ []) (0xA5 ∷ 0x5A ∷ 0x06 ∷ 1 ∷ 84 ∷ 66 ∷ 67 ∷ 68 ∷ 69 ∷ []))
     ∷ turn (feeder (Load 0))
     (out 0 nothing (called_last k1-002 (box (scanner Idle None) (job 0 1 50 0 0) (side 1 0 2) (settings 1 1) (feed Loaded None 1 0) (ring 0 0)))
     (83 ∷ 84 ∷ 73 ∷ 81 ∷ 82 ∷ []) [])
@@ -1304,7 +1304,7 @@ two_jobs =
     (91 ∷ 84 ∷ 73 ∷ 81 ∷ 82 ∷ []) [])
     ∷ turn (scan (Fetch j2 9 nine))
     (out 0 (picture 1 true (91 ∷ [])) (box (scanner Scanning None) (job 2 2 60 0 0) (side 2 minus_one 3) (settings 1 0) (feed Busy None 1 0) (ring 1 0))
-    (91 ∷ 84 ∷ 73 ∷ 81 ∷ 82 ∷ []) (0x_a5 ∷ 0x5_a ∷ 0x06 ∷ 1 ∷ 91 ∷ 66 ∷ 67 ∷ 68 ∷ 69 ∷ []))
+    (91 ∷ 84 ∷ 73 ∷ 81 ∷ 82 ∷ []) (0xA5 ∷ 0x5A ∷ 0x06 ∷ 1 ∷ 91 ∷ 66 ∷ 67 ∷ 68 ∷ 69 ∷ []))
     ∷ turn (report (Path 1))
     (out 0 nothing (box (scanner Erred Jammed) (job 2 2 60 0 0) (side 2 minus_one 3) (settings 1 0) (feed Stuck Jammed 1 1) (ring 0 0))
     (91 ∷ 84 ∷ 73 ∷ 81 ∷ 82 ∷ []) [])
@@ -1331,7 +1331,7 @@ worked =
     ∷ turn (scan (Fetch j1-001 8 (replicate 259 0)))
     (out 0 (picture 2 true (65 ∷ 66 ∷ []))
     (box (scanner Pending None) (job 1 1 10 0 0) (side 2 0 2) (settings 1 1) (feed Unloaded None 1 0) (ring 2 0))
-    (65 ∷ 66 ∷ zeros) (0x_a5 ∷ 0x5_a ∷ 0x06 ∷ 2 ∷ 65 ∷ 66 ∷ replicate 253 0))
+    (65 ∷ 66 ∷ zeros) (0xA5 ∷ 0x5A ∷ 0x06 ∷ 2 ∷ 65 ∷ 66 ∷ replicate 253 0))
     ∷ []
 
 pub stories : List (Case (List Outcome))

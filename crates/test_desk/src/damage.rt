@@ -44,7 +44,7 @@ fn size(s: &[u8]) -> usize {
         return 0;
     }
     let n = wide(s[3]);
-    if (s[0] != 0x_a5) | (s[1] != 0x5_a) | !is_listed(s[2], s[3]) {
+    if (s[0] != 0xA5) | (s[1] != 0x5A) | !is_listed(s[2], s[3]) {
         return 0;
     }
     if s.len() - 4 < n { 0 } else { 4 + n }

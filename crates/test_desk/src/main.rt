@@ -40,7 +40,7 @@ pub fn say_count(what: &[u8], n: u64) {
 // J0000000001001.jpg, and J0000000001998.jpg.
 fn named(second: u64) -> Names {
     let last = Named {
-        first: 0x4_a30303030303030,
+        first: 0x4A30303030303030,
         second,
         third: 0x7067,
         len: 18,
@@ -60,7 +60,7 @@ fn start(word: &[u8]) -> Record {
         return r;
     }
     if check::same(word, b"named") {
-        r.names = named(0x3030313030312_e6_a);
+        r.names = named(0x3030313030312E6A);
         return r;
     }
     if check::same(word, b"side_998") {
@@ -72,7 +72,7 @@ fn start(word: &[u8]) -> Record {
         r.job.held = 1;
         r.job.last = 1;
         r.side.number = 998;
-        r.names = named(0x3030313939382_e6_a);
+        r.names = named(0x3030313939382E6A);
         return r;
     }
     let n = (files::number(word) % 4294967296) as u32;
