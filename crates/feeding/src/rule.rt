@@ -85,6 +85,7 @@ fn end_side(state: Feed) -> Fed
 }
 
 // The one mode is Simplex.
+#[tactic(auto, unfolding(rules::specs::Feeder::fed))]
 pub fn fed(mode: u8, state: Feed, input: Input, tray: u8, path: u8) -> Fed
     ensures { result ≡ fed mode state input tray path }
 {
