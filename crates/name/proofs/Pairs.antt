@@ -1,7 +1,7 @@
 -- A name's bytes two at a time: the digits of a job above a place are those of the job divided by it.
 use Prim.Native.Nat.{ℕ, ◌+◌, ◌*◌, ◌/◌, ◌%◌, ◌^◌, ◌<◌}
 use mathlib.Core.Path.{◌≡◌, refl, sym, ◌∙◌, ap}
-use mathlib.Core.List.{List, [], ◌∷◌}
+use mathlib.Core.List.{[], ◌∷◌}
 use native.Mathlib.Omega.{arith}
 use native.Mathlib.Nat.{div-one, div-div-eq-div-mul, div-lt_iff_lt-mul, mod-eq_of_lt}
 use Rattle.rules.specs.Name.{packed}
