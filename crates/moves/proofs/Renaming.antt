@@ -1,15 +1,14 @@
 -- What announcing a name comes to: nothing where it is the last one; and by SideNumber's next, where that settles it.
-use Prim.Native.Nat.{ℕ, ◌+◌, ◌≤◌, ◌<◌}
+use Prim.Native.Nat.{ℕ, ◌≤◌, ◌<◌}
 use mathlib.Core.Path.{◌≡◌, refl, sym, ◌∙◌, ap}
 use mathlib.Core.Logic.{◌≢◌}
-use mathlib.Core.Bool.{Bool, true, false, cond}
+use mathlib.Core.Bool.{Bool, true, false}
 use native.Mathlib.Omega.{arith}
 use lib.Dec.{ltb}
 use borrow.Author.Tests.{leb-true, le-leb, ltb-true, ltb-false}
-use Rattle.rules.specs.declared.Named.{Named}
 use Rattle.rules.specs.declared.Record.{Record}
 use Rattle.rules.specs.Record.{last_side, idle, on, sound}
-use Rattle.rules.specs.Name.{name_of, name, spelt, present, alike, name_stays}
+use Rattle.rules.specs.Name.{name, spelt, present, alike, name_stays}
 use Rattle.rules.specs.Moves.{risen, announced_by, announced, numbered}
 use Rattle.rules.proofs.Choice.{choice, and_l, and_r}
 use Rattle.rules.proofs.Sound.{to-sound}

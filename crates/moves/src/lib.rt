@@ -96,6 +96,7 @@ pub fn announce(r: Record) -> Record
 
 // ---- a side begins
 // From the feeder it becomes Busy. Then Scanning.
+#[tactic(auto, unfolding(rules::specs::Moves::begun))]
 pub fn begin(r: Record) -> Record
     ensures { result ≡ begun r }
 {
@@ -106,6 +107,7 @@ pub fn begin(r: Record) -> Record
 }
 
 // ---- end of job
+#[tactic(auto, unfolding(rules::specs::Moves::released))]
 fn release(why: Failure, left: Feeder, r: Record) -> Record
     ensures { result ≡ released why left r }
 {
