@@ -16,6 +16,7 @@ fn next_job(r: Record) -> u32
 }
 
 // The setting Append, the job and its time stored.
+#[tactic(auto, unfolding(rules::specs::Moves::given))]
 pub fn give(append: u8, asked: u32, r: Record) -> Record
     ensures { result ≡ given append asked r }
 {
@@ -35,6 +36,7 @@ pub fn give(append: u8, asked: u32, r: Record) -> Record
 }
 
 // Setting and SideCount stored, FailureCode none.
+#[tactic(auto, unfolding(rules::specs::Moves::readied))]
 fn ready(from: u8, count: u32, r: Record) -> Record
     ensures { result ≡ readied from count r }
 {
@@ -52,6 +54,7 @@ fn ready(from: u8, count: u32, r: Record) -> Record
 }
 
 // 0 gives Pending, else a side begins.
+#[tactic(auto, using(rules::proofs::Guards::guards, rules::proofs::Guards::numbers), unfolding(rules::specs::Moves::started))]
 pub fn start(from: u8, count: u32, r: Record) -> Record
     ensures { result ≡ started from count r }
 {
@@ -70,6 +73,7 @@ pub fn waits(s: Scan) -> bool
 }
 
 // Pending or Erred ends the job; Scanning or Finishing sets stop-asked.
+#[tactic(auto, using(rules::proofs::Guards::guards, rules::proofs::Guards::numbers), unfolding(rules::specs::Moves::stopped))]
 pub fn stop(r: Record) -> Record
     ensures { result ≡ stopped r }
 {

@@ -8,6 +8,7 @@ ghost use Rattle.moves.specs.Holds.{is_named};
 use rules::{Input, Record, Ring};
 
 // Busy becomes Unloaded, SideCount falls, Finishing; a sign of life.
+#[tactic(auto, unfolding(rules::specs::Moves::finished))]
 fn finish(r: Record) -> Record
     ensures { result ≡ finished r }
 {
@@ -19,6 +20,7 @@ fn finish(r: Record) -> Record
 }
 
 // If the ring is empty the drain step follows at once; of a record whose last name is its own.
+#[tactic(auto, using(rules::proofs::Guards::guards, rules::proofs::Guards::numbers), unfolding(rules::specs::Moves::side_ended, rules::specs::Moves::finished))]
 pub fn end_side(r: Record) -> Record
     ensures { is_named r ≡ true → result ≡ side_ended r }
 {
@@ -55,6 +57,7 @@ fn catch(r: Record) -> Record
 }
 
 // 0 sets the sensor only; 1 also makes the feeder Erred, Jammed.
+#[tactic(auto, using(rules::proofs::Guards::guards, rules::proofs::Guards::numbers), unfolding(rules::specs::Moves::pathed))]
 pub fn set_path(value: u8, r: Record) -> Record
     ensures { result ≡ pathed value r }
 {
@@ -80,6 +83,7 @@ fn pass_second(due: u16, r: Record) -> Record
 }
 
 // Due at granted, at 300 in Erred.
+#[tactic(auto, using(rules::proofs::Guards::guards, rules::proofs::Guards::numbers), unfolding(rules::specs::Moves::ticked))]
 pub fn tick(r: Record) -> Record
     ensures { result ≡ ticked r }
 {
