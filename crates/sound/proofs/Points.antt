@@ -1,11 +1,10 @@
 -- The points of a sound record with the scan state known: the tests that are left are the ones that the code makes.
 use Prim.Native.Nat.{ℕ}
-use mathlib.Core.Path.{◌≡◌, refl}
+use mathlib.Core.Path.{◌≡◌, refl, sym, ◌∙◌}
 use mathlib.Core.Bool.{Bool, true, false, not, ◌&&◌, ◌||◌, false≢true, and-true, and-false, or-false, not-not}
 use lib.Dec.{eqb, leb, ltb}
 use borrow.Author.Tests.{eqb-true}
 use Rattle.rules.proofs.Choice.{and_l, and_r}
-use Rattle.rules.proofs.Guards.{stopped-at, went_on}
 use Rattle.rules.specs.declared.Scan.{Scan}
 use Rattle.rules.specs.declared.Feed.{Feed}
 use Rattle.rules.specs.declared.Feeder.{Feeder}
@@ -84,35 +83,35 @@ named-out s i e = rw i e
 -- ---- the six points, each tested by `t`: one that fails settles it, whatever the others say; where the first five hold, the last
 -- decides
 module _ (r : Record) (n : ℕ) where
-  pub idle-fails : {t : Bool} → t ≡ every (idle_points r.scanner.state r.job r.side) → not t ≡ true → false ≡ sound r n
+  pub idle-fails : {t : Bool} → t ≡ every (idle_points r.scanner.state r.job r.side) → t ≡ false → false ≡ sound r n
   unfolding sound
-  idle-fails e h = rw (stopped-at _ _ e h)
+  idle-fails e h = rw (sym e ∙ h)
 
-  pub held-fails : {t : Bool} → t ≡ every (held_points r.scanner.state r.job r.side) → not t ≡ true → false ≡ sound r n
+  pub held-fails : {t : Bool} → t ≡ every (held_points r.scanner.state r.job r.side) → t ≡ false → false ≡ sound r n
   unfolding sound
-  held-fails e h = rw (stopped-at _ _ e h, and-false)
+  held-fails e h = rw (sym e ∙ h, and-false)
 
-  pub ring-fails : {t : Bool} → t ≡ every (ring_points r.scanner.state r.ring n) → not t ≡ true → false ≡ sound r n
+  pub ring-fails : {t : Bool} → t ≡ every (ring_points r.scanner.state r.ring n) → t ≡ false → false ≡ sound r n
   unfolding sound
-  ring-fails e h = rw (stopped-at _ _ e h, and-false)
+  ring-fails e h = rw (sym e ∙ h, and-false)
 
-  pub feeder-fails : {t : Bool} → t ≡ every (feeder_points r.scanner.state r.feeder.state r.settings r.side) → not t ≡ true
+  pub feeder-fails : {t : Bool} → t ≡ every (feeder_points r.scanner.state r.feeder.state r.settings r.side) → t ≡ false
       → false ≡ sound r n
   unfolding sound
-  feeder-fails e h = rw (stopped-at _ _ e h, and-false)
+  feeder-fails e h = rw (sym e ∙ h, and-false)
 
-  pub marks-fail : {t : Bool} → t ≡ every (mark_points r.scanner.state r.settings r.job.stop r.feeder) → not t ≡ true → false ≡ sound r n
+  pub marks-fail : {t : Bool} → t ≡ every (mark_points r.scanner.state r.settings r.job.stop r.feeder) → t ≡ false → false ≡ sound r n
   unfolding sound
-  marks-fail e h = rw (stopped-at _ _ e h, and-false)
+  marks-fail e h = rw (sym e ∙ h, and-false)
 
   pub name-decides : {i h g f m t : Bool}
-      → i ≡ every (idle_points r.scanner.state r.job r.side) → not i ≡ false
-      → h ≡ every (held_points r.scanner.state r.job r.side) → not h ≡ false
-      → g ≡ every (ring_points r.scanner.state r.ring n) → not g ≡ false
-      → f ≡ every (feeder_points r.scanner.state r.feeder.state r.settings r.side) → not f ≡ false
-      → m ≡ every (mark_points r.scanner.state r.settings r.job.stop r.feeder) → not m ≡ false
+      → i ≡ every (idle_points r.scanner.state r.job r.side) → i ≡ true
+      → h ≡ every (held_points r.scanner.state r.job r.side) → h ≡ true
+      → g ≡ every (ring_points r.scanner.state r.ring n) → g ≡ true
+      → f ≡ every (feeder_points r.scanner.state r.feeder.state r.settings r.side) → f ≡ true
+      → m ≡ every (mark_points r.scanner.state r.settings r.job.stop r.feeder) → m ≡ true
       → t ≡ every (name_points r)
       → t ≡ sound r n
   unfolding sound
   name-decides ei ni eh nh eg ng ef nf em nm en =
-      rw (went_on _ _ ei ni, went_on _ _ eh nh, went_on _ _ eg ng, went_on _ _ ef nf, went_on _ _ em nm) en
+      rw (sym ei ∙ ni, sym eh ∙ nh, sym eg ∙ ng, sym ef ∙ nf, sym em ∙ nm) en
