@@ -1,4 +1,6 @@
 // StartScan and Start.
+#![tactic(auto, unfolding(rules::specs::Machine::step, rules::specs::Machine::refusals, rules::specs::Machine::scan_refusals, rules::specs::Machine::effect, rules::specs::Machine::scan_effect, rules::specs::Calls::answer))]
+
 ghost use Rattle.std.specs.Prelude.{◌≡◌, true, cond, not, ◌&&◌, ◌||◌, [], eqb, leb, length};
 ghost use Rattle.rules.specs.Record.{endless, counted, on, sound};
 ghost use Rattle.rules.specs.Feeder.{jam_stops, sheet_stops};

@@ -1,4 +1,6 @@
 // The scan calls that only tell.
+#![tactic(auto, unfolding(rules::specs::Machine::step, rules::specs::Machine::refusals, rules::specs::Machine::scan_refusals, rules::specs::Machine::effect, rules::specs::Machine::scan_effect, rules::specs::Calls::answer))]
+
 ghost use Rattle.std.specs.Prelude.{◌≡◌, true, [], length};
 ghost use Rattle.rules.specs.Record.{sound};
 ghost use Rattle.rules.specs.Calls.{scan, GetDestination, GetState, GetSideInformation};
