@@ -1,6 +1,6 @@
 // The feeder calls: the job number must be the one held, 0 when Idle.
 // A call's `_sound` is for a caller that knows the record to be sound with the ring: soundness is tested once.
-#![tactic(auto)]
+#![tactic(auto, unfolding(rules::specs::Machine::step, rules::specs::Machine::refusals, rules::specs::Machine::feeder_refusals, rules::specs::Machine::effect, rules::specs::Machine::feeder_effect, rules::specs::Calls::answer))]
 
 pub mod mode;
 

@@ -1,4 +1,6 @@
 // The feeder's mode and state.
+#![tactic(auto, unfolding(rules::specs::Machine::step, rules::specs::Machine::refusals, rules::specs::Machine::feeder_refusals, rules::specs::Machine::effect, rules::specs::Machine::feeder_effect, rules::specs::Calls::answer))]
+
 ghost use Rattle.std.specs.Prelude.{◌≡◌, true, [], eqb, length};
 ghost use Rattle.rules.specs.Record.{sound};
 ghost use Rattle.rules.specs.Feeder.{simplex};
