@@ -1,6 +1,6 @@
 // The five sensor reports; a second is a Tick. A call whose name ends in `_sound` says what it gives on a sound record only: for a
 // caller that has tested that already.
-#![tactic(auto)]
+#![tactic(auto, unfolding(rules::specs::Machine::step, rules::specs::Machine::refusals, rules::specs::Machine::report_refusals, rules::specs::Machine::effect, rules::specs::Machine::report_effect, rules::specs::Calls::answer, rules::specs::Moves::filled))]
 
 ghost use Rattle.std.specs.Prelude.{◌≡◌, true, List, [], ℕ, ◌+◌, ◌^◌, ◌<◌, length as len};
 ghost use Rattle.rules.specs.Record.{sound};
