@@ -1,5 +1,5 @@
 // Fetch by name.
-#![tactic(auto)]
+#![tactic(auto, unfolding(rules::specs::Machine::step, rules::specs::Machine::refusals, rules::specs::Machine::scan_refusals, rules::specs::Machine::effect, rules::specs::Machine::scan_effect, rules::specs::Calls::answer))]
 
 ghost use Rattle.std.specs.Prelude.{◌≡◌, true, not, ◌||◌, ◌&&◌, ◌-◌, ◌<◌, ◌≤◌, min, eqb, length};
 ghost use Rattle.rules.specs.Record.{idle, finishing, sound};
