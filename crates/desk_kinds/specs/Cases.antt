@@ -1,6 +1,6 @@
 -- The paper's table of kinds, row by row and field by field. A definition that is wrong fails at the line of a case, also where the
 -- code is wrong with it.
-use Rattle.std.specs.Prelude.{ℕ, zero, suc, ◌≡◌, refl, Bool, true, false, cond, List, [], ◌∷◌, ◌++◌, map}
+use Rattle.std.specs.Prelude.{ℕ, zero, suc, refl, Bool, true, false, cond, List, [], ◌∷◌, ◌++◌, map}
 use Rattle.rules.specs.Cases.{Case, that, minus_one, minus_two}
 use Rattle.answers.specs.declared.Request.TheVariants.{StartScan, Start, Stop, Abort, GetDestination, Fetch, GetState, GetSideInformation, Load, Eject}
 use Rattle.answers.specs.declared.Request.TheVariants.{Reset, SetFeederMode, GetFeederState, GetFeederMode, Bytes, SideEnded, Tray, Path, Tick}

@@ -29,6 +29,7 @@ fn count_at(s: &[u8], i: usize) -> u32
 }
 
 // What a record of that kind and payload asks.
+#[tactic(auto, unfolding(crate::specs::Kinds::entries, crate::specs::Kinds::entry_in, crate::specs::Kinds::asking_of))]
 pub fn request(kind: u8, body: &[u8]) -> Asking
     ensures { result ≡ asking_of kind body.now }
 {

@@ -42,6 +42,7 @@ fn said(row: Row, kind: u8) -> Limits
 }
 
 // Each arm is one row, so that the compiler knows it: nothing is laid out or sought as the program runs.
+#[tactic(auto, unfolding(crate::specs::Kinds::entries, crate::specs::Kinds::entry_in, crate::specs::Kinds::limits_of))]
 pub fn limits(kind: u8) -> Limits
     ensures { result ≡ limits_of kind }
 {

@@ -1,6 +1,6 @@
 -- The desk's lines held to the paper, letter by letter and column by column. A definition that is wrong fails at the line of a case,
 -- also where the code is wrong with it.
-use Rattle.std.specs.Prelude.{ℕ, ◌≡◌, refl, true, false, List, [], ◌∷◌}
+use Rattle.std.specs.Prelude.{ℕ, refl, true, false, List, [], ◌∷◌}
 use Rattle.rules.specs.declared.Scan.{Scan}
 use Rattle.rules.specs.declared.Scan.TheVariants.{Idle, Pending, Scanning, Finishing, Erred}
 use Rattle.rules.specs.declared.Feed.{Feed}

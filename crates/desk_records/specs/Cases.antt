@@ -1,6 +1,6 @@
 -- The form of a record held to the paper: mark A5 5A, kind, length, payload. A definition that is wrong fails at the line of a case,
 -- also where the code is wrong with it.
-use Rattle.std.specs.Prelude.{ℕ, ◌≡◌, refl, Bool, true, false, List, [], ◌∷◌, ◌++◌, replicate}
+use Rattle.std.specs.Prelude.{ℕ, refl, Bool, true, false, List, [], ◌∷◌, ◌++◌, replicate}
 use Rattle.rules.specs.Cases.{Case, that}
 use Rattle.answers.specs.declared.Why.TheVariants.{Unlisted, NoRoom}
 use Rattle.answers.specs.declared.Request.TheVariants.{StartScan, Fetch, Tick}

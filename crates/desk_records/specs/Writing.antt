@@ -1,5 +1,5 @@
 -- What writing a record into a lent buffer comes to.
-use Rattle.std.specs.Prelude.{ℕ, zero, suc, ◌+◌, ◌/◌, ◌%◌, ◌^◌, cond, List, [], ◌∷◌, ◌++◌, length, leb}
+use Rattle.std.specs.Prelude.{ℕ, zero, suc, ◌/◌, ◌%◌, ◌^◌, cond, List, [], ◌∷◌, ◌++◌, length, leb}
 use Rattle.rules.specs.Calls.{Reason, n601, n603, number_of}
 use Rattle.answers.specs.Told.{reason_of}
 use Rattle.desk_text.specs.Put.{overlaid}

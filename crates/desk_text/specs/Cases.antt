@@ -1,6 +1,6 @@
 -- The cases of texts and numbers: what the definitions give, and what the paper says. A definition that is wrong fails at the line of
 -- a case.
-use Rattle.std.specs.Prelude.{ℕ, ◌≡◌, refl, List, [], ◌∷◌}
+use Rattle.std.specs.Prelude.{ℕ, refl, List, [], ◌∷◌}
 use Rattle.rules.specs.Cases.{Case, that}
 use Rattle.desk_text.specs.Digits.{last_digits, decimal, hex_byte, hexes}
 use Rattle.desk_text.specs.Put.{fitting, overlaid, Puts}
