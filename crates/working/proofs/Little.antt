@@ -7,7 +7,7 @@ use mathlib.Core.List.{List}
 use lib.Dec.{leb}
 use Rattle.rules.specs.declared.Record.{Record}
 use Rattle.rules.specs.Record.{idle}
-use Rattle.rules.specs.Moves.{with_feeder, with_ring, quiet_at, ticked, timed_out, released, due, last, fetched, drained, moved, filled}
+use Rattle.rules.specs.Moves.{with_feeder, with_ring, quiet_at, ticked, timed_out, released, due, fetched, drained, moved, filled}
 use Rattle.rules.specs.Calls.{Call, scan, Fetch, feeder, Load, Eject, Reset, report, Bytes, Tray, Tick}
 use Rattle.rules.specs.Calls.{State, Outcome, Values, nothing, time, destination, picture, state, sides, feeding, mode, stored}
 use Rattle.rules.specs.Machine.{step, effect, scan_effect, feeder_effect, report_effect}
