@@ -1,5 +1,5 @@
 -- What a window answers is `run` of the calls in the bytes that it read, and its text is their lines, with the bad line if it ended.
-use Rattle.std.proofs.Common.{◌≡◌, ℕ, zero, suc, ◌+◌, ◌-◌, ◌<◌, ◌≤◌, Bool, true, false, cond, List, [], ◌∷◌, ◌++◌, length, take, drop, sym, refl, ap, ◌∙◌, subst, true≢false, append_assoc, append-nil, zero-le, add-zero, add_assoc, zero-add, arith, length-drop, take-append-drop, length-take, length-take-le, drop-drop, take-add, drop_at}
+use Rattle.std.proofs.Common.{◌≡◌, ℕ, zero, suc, ◌+◌, ◌-◌, ◌≤◌, Bool, true, false, cond, List, [], ◌∷◌, ◌++◌, length, take, drop, sym, refl, ap, ◌∙◌, subst, true≢false, append_assoc, append-nil, zero-le, add-zero, add_assoc, zero-add, arith, length-drop, take-append-drop, length-take, length-take-le, drop-drop, take-add, drop_at}
 use lib.Seq.{drop-nil}
 use Rattle.rules.specs.Calls.{Call, State}
 use Rattle.rules.specs.Machine.{step, run_by, run}

@@ -1,5 +1,5 @@
 -- For any numbers: a call that is not begun leaves all alone; for a box with room, what the code holds is what the definitions give.
-use Rattle.std.proofs.Common.{◌≡◌, ℕ, ◌+◌, ◌<◌, ◌≤◌, Bool, true, false, cond, leb, List, [], length, sym, refl, ap, ◌∙◌, add-zero, zero-add, arith, leb-true}
+use Rattle.std.proofs.Common.{◌≡◌, ℕ, ◌+◌, ◌<◌, ◌≤◌, Bool, true, false, cond, leb, List, [], length, refl, ap, ◌∙◌, add-zero, zero-add, arith}
 use Rattle.desk_line.specs.Line.{line_room}
 use Rattle.stored.specs.Stored.{is_box}
 use Rattle.desk_stream.specs.Desk.{hears}

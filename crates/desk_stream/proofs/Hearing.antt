@@ -1,5 +1,5 @@
 -- What is heard at the front of some bytes: it is what the front says, and stays when more bytes follow.
-use Rattle.std.proofs.Common.{◌≡◌, ℕ, ◌+◌, ◌<◌, ◌≤◌, true, false, List, ◌++◌, length, take, drop, sym, refl, ap, ◌∙◌, arith, length-drop}
+use Rattle.std.proofs.Common.{◌≡◌, ℕ, ◌+◌, ◌<◌, ◌≤◌, false, List, ◌++◌, length, take, drop, sym, refl, ap, ◌∙◌, arith, length-drop}
 use lib.ListN.{get_or-append}
 use lib.Seq.{drop-append-le, take-append-le}
 use Rattle.answers.specs.declared.Request.{Request}
@@ -9,7 +9,7 @@ use Rattle.desk_records.specs.declared.Hearing.{Hearing}
 use Rattle.desk_records.specs.Hearing.{hear_at}
 use Rattle.desk_kinds.specs.Numbers.{big_endian}
 use Rattle.desk_records.proofs.Stands.{stands, whole}
-use Rattle.desk_records.specs.Reading.{second_mark, length_width, length_at, length_in, head_of, front, placed, read_with, read_at, cut, part_of}
+use Rattle.desk_records.specs.Reading.{second_mark, length_width, length_at, length_in, head_of, front, placed, read_with, cut, part_of}
 use Rattle.desk_records.proofs.Stable.{front-stable}
 use Rattle.desk_records.proofs.Admits.{front-inside, whole-at, read-places}
 use Rattle.desk_records.proofs.Heard.{heard-record, heard-none}

@@ -2,7 +2,7 @@
 use Rattle.std.proofs.Common.{◌≡◌, ℕ, true, false, List, [], ◌∷◌, length, replicate, sym, refl, ap, ◌∙◌}
 use lib.ListN.{length-replicate}
 use Rattle.rules.specs.Calls.{Values, State, Outcome, Guard, refuse, leaving, Call}
-use Rattle.rules.specs.Calls.{answer, scan, Fetch, lent}
+use Rattle.rules.specs.Calls.{answer, scan, Fetch}
 use Rattle.rules.specs.Machine.{step, refusals, scan_refusals, effect, scan_effect}
 use Rattle.answers.specs.declared.Request.{Request}
 use Rattle.answers.specs.declared.Answer.{Answer}

@@ -1,5 +1,5 @@
 -- What a record and a window come to for any numbers in the box's place, any ring and any bytes.
-use Rattle.std.specs.Prelude.{ℕ, Bool, true, false, cond, List, [], length, nat_le}
+use Rattle.std.specs.Prelude.{ℕ, Bool, false, cond, List, [], length, nat_le}
 use Rattle.rules.specs.Calls.{n603, n604, number_of, State}
 use Rattle.answers.specs.Told.{state_of}
 use Rattle.desk_text.specs.Put.{fitting, overlaid}
