@@ -1,27 +1,25 @@
 -- What the program says, turn by turn, is a run of `Prints`: so it is the desk's text for its input, however its reads cut it.
-use Rattle.std.proofs.Common.{◌≡◌, ℕ, ◌+◌, ◌-◌, ◌%◌, ◌^◌, ◌<◌, ◌≤◌, min, Bool, true, false, cond, ◌&&◌, ◌||◌, eqb, ltb, leb, List, [], ◌∷◌, ◌++◌, length, take, drop, replicate, sym, refl, ap, ◌∙◌, subst, true≢false, append_assoc, append-nil, add-zero, zero-add, arith, length-append, length-drop, take-append-drop, length-take, drop-drop, eqb-true, le-leb}
+use Rattle.std.proofs.Common.{◌≡◌, ℕ, ◌+◌, ◌-◌, ◌%◌, ◌^◌, ◌<◌, ◌≤◌, Bool, true, false, ◌&&◌, ◌||◌, eqb, ltb, leb, List, [], ◌∷◌, ◌++◌, length, take, drop, replicate, sym, refl, ap, ◌∙◌, subst, true≢false, append_assoc, append-nil, add-zero, arith, length-append, length-drop, take-append-drop, length-take, drop-drop, eqb-true, le-leb}
 use mathlib.Core.Bool.{false≢true}
 use native.Mathlib.Nat.{mod-add-mod}
 use lib.ListN.{length-replicate}
 use lib.Seq.{take-append_seam, take-append-add, drop-append-le}
 use Rattle.rules.specs.Record.{fresh}
 use Rattle.rules.specs.Calls.{State}
-use Rattle.rules.specs.Machine.{start}
 use Rattle.stored.specs.Stored.{kept, is_box}
 use Rattle.stored.proofs.Back.{recorded-kept}
 use Rattle.stored.proofs.Fresh.{fresh-box}
-use Rattle.answers.specs.Told.{state_of}
 use Rattle.desk_text.specs.Put.{overlaid}
 use Rattle.desk_line.specs.Line.{line_room}
 use Rattle.desk_stream.specs.Desk.{ring_room, desk_text}
 use Rattle.desk_stream.specs.Window.{longest, Progress, outset, served}
-use Rattle.desk_stream.specs.Boxed.{box_in, Came, unsound_number, no_room_number, as_it_was, windowed, serving}
+use Rattle.desk_stream.specs.Boxed.{box_in, Came, windowed, serving}
 use Rattle.desk_stream.specs.Runs.{Prints, bad, end, more}
 use Rattle.desk_stream.proofs.Answered.{drop_of_take, window-inside}
 use Rattle.desk_stream.proofs.Progress.{little-left}
 use Rattle.desk_stream.proofs.Windows.{desk-prints}
 use Rattle.desk_loop.specs.declared.Flow.{Flow}
-use Rattle.desk_loop.specs.Loop.{unread, filled, settled, settled_window, Desk, passing, behind, turned_by, turned}
+use Rattle.desk_loop.specs.Loop.{unread, filled, Desk, passing, behind, turned_by, turned}
 use Rattle.desk_loop.specs.Program.{opened, Brings, with_window, Steps, on, reads, Stepped, Reaches, begins, goes_on, said, Goes, over, step}
 use Rattle.desk_loop.proofs.Turning.{Within, length-unread}
 
@@ -295,18 +293,21 @@ none_left [] input e = e
 none_left (b ∷ bytes) input e = let z : ◌≡◌ {A = ℕ} 0 1 = absurd (omega (arith, ap length e)) in absurd (omega arith)
 
 -- ---- the law
-pub goes-prints : {d : Desk} {input text : List ℕ} → Goes d input text → (at : ℕ) → Ready d at input → d.flow.over ≡ false
-    → Prints (box_in d.words d.ring) at (unread d.window d.flow.at d.flow.held ++ input) text
-goes-prints (over e) at s h = absurd (true≢false (sym e ∙ h))
-goes-prints {d} (step {input = input} {text = text} e (on w) n k g) at s h =
+-- a step, where what follows it prints what it says
+step-prints : {d : Desk} {bytes : List ℕ} {e : Desk} {input text : List ℕ} → Steps d bytes e → (d.flow.wants ≡ true → length bytes ≡ 0 → input ≡ [])
+    → is_box e.words (length e.ring) ≡ is_box d.words (length d.ring) → Goes e input text
+    → ((at : ℕ) → Ready e at input → e.flow.over ≡ false
+    → Prints (box_in e.words e.ring) at (unread e.window e.flow.at e.flow.held ++ input) text) → (at : ℕ)
+    → Ready d at (bytes ++ input) → Prints (box_in d.words d.ring) at (unread d.window d.flow.at d.flow.held ++ (bytes ++ input)) (said e ++ text)
+step-prints {d} {input = input} {text = text} (on w) n k g rest at s =
     let fits : d.flow.held + 0 ≤ length d.window = omega (arith, s.within.back) in
     let t = filled-turn d 0 s.within.front fits s.box s.room in
     let no_more : (full d 0).last ≡ true → input ≡ [] = λ x. s.done (last-same d.flow.last d.flow.wants w x) in
     let again = ready-again t at s.count no_more g (k ∙ s.box) s.room in
     subst (λ (i : ℕ). Prints (box_in d.words d.ring) at (unread d.window d.flow.at i ++ input) (said (turned 0 d) ++ text))
     (add-zero d.flow.held)
-    (turn-prints t at s.count no_more g (λ x. goes-prints g _ again x))
-goes-prints {d} (step {input = input} {text = text} e (reads bytes window w b) n k g) at s h =
+    (turn-prints t at s.count no_more g (λ x. rest _ again x))
+step-prints {d} {input = input} {text = text} (reads bytes window w b) n k g rest at s =
     let d' : Desk = with_window window d in
     let t = filled-turn d' (length bytes) s.within.front (omega (arith, b.fits, b.size)) s.box s.room in
     let no_more : (full d' (length bytes)).last ≡ true → input ≡ [] =
@@ -317,7 +318,12 @@ goes-prints {d} (step {input = input} {text = text} e (reads bytes window w b) n
     (ap (λ (x : List ℕ). x ++ input)
     (unread-brought d.window d.flow.at d.flow.held s.within.front s.within.back bytes window b)
     ∙ append_assoc (unread d.window d.flow.at d.flow.held) bytes input)
-    (turn-prints t at s.count no_more g (λ x. goes-prints g _ again x))
+    (turn-prints t at s.count no_more g (λ x. rest _ again x))
+
+pub goes-prints : {d : Desk} {input text : List ℕ} → Goes d input text → (at : ℕ) → Ready d at input → d.flow.over ≡ false
+    → Prints (box_in d.words d.ring) at (unread d.window d.flow.at d.flow.held ++ input) text
+goes-prints (over e) at s h = absurd (true≢false (sym e ∙ h))
+goes-prints (step e t n k g) at s h = step-prints t n k g (goes-prints g) at s
 
 opened-box : (window lines : List ℕ) → is_box (opened window lines).words (length (opened window lines).ring) ≡ true
 opened-box window lines =

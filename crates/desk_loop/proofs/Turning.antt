@@ -1,6 +1,5 @@
 -- What a turn's parts hold: where the window stands in its buffer, and what is kept of it.
-use Rattle.std.proofs.Common.{◌≡◌, ℕ, ◌+◌, ◌-◌, ◌≤◌, min, Bool, true, false, cond, not, List, [], length, take, drop, sym, refl, ap, ◌∙◌, true≢false, arith, length-drop, length-take, take_all}
-use mathlib.Core.Bool.{false≢true}
+use Rattle.std.proofs.Common.{◌≡◌, ℕ, ◌+◌, ◌-◌, ◌≤◌, Bool, true, false, cond, not, List, [], length, drop, refl, ap, ◌∙◌, arith, length-drop, length-take, take_all}
 use borrow.Author.Tests.{not-true, not-false}
 use Rattle.desk_text.specs.Put.{Puts, fitting, overlaid}
 use Rattle.desk_loop.specs.declared.Flow.{Flow}
