@@ -1,5 +1,5 @@
 -- A list of a host's calls is `run` of the calls in them: so demands 2 and 3 speak of a host's box.
-use Prim.Native.Nat.{ℕ, ◌+◌, ◌-◌, ◌≤◌}
+use Prim.Native.Nat.{ℕ, ◌+◌, ◌-◌}
 use mathlib.Core.Path.{◌≡◌, refl, sym, ap, ◌∙◌, subst}
 use mathlib.Core.Bool.{Bool, true, false, cond}
 use mathlib.Core.List.{List, [], ◌∷◌, ◌++◌}
@@ -10,8 +10,8 @@ use lib.ListN.{length, take, drop, length-take, length-replicate, replicate, tak
 use lib.Seq.{take-nil}
 use Rattle.rules.specs.declared.Record.{Record}
 use Rattle.rules.specs.Record.{fresh}
-use Rattle.rules.specs.Calls.{Call, State, Outcome, report, Tick}
-use Rattle.rules.specs.Machine.{step, Ran, run, run_by, start}
+use Rattle.rules.specs.Calls.{Call, State}
+use Rattle.rules.specs.Machine.{step, run, run_by, start}
 use Rattle.rules.specs.Promises.{Ringed}
 use Rattle.rules.specs.Watch.{lived}
 use Rattle.rules.proofs.Theorems.{lived-run}
@@ -34,7 +34,7 @@ use Rattle.host_tick.specs.Second.{second_of}
 use Rattle.host_tick.proofs.AnyRing.{any-ring}
 use Rattle.bench_box.specs.Host.{tick_number, tick_words, Left, flag, to_host}
 use Rattle.bench_box.specs.Hosted.{HostCall, serves, performs, ticks, comes, Hosted, hosted-none, hosted-one, words_left, ring_left}
-use Rattle.bench_box.specs.Hosted.{read_of, asked_in, calls_in, calls_of, Unanswered, short, none_reads, bad_behind}
+use Rattle.bench_box.specs.Hosted.{read_of, asked_in, calls_in, calls_of, Unanswered, short, none_reads}
 use Rattle.bench_box.specs.Hosted.{Told, in_lines, no_lines, by_number, not-at-all, by-tick, Follows, follows-none, follows-one}
 
 -- the numbers of a box are the box

@@ -52,6 +52,7 @@ pub extern "C" fn bench_box_tick(words: &mut [u64; WORDS], length: usize) -> u16
 }
 
 #[unsafe(no_mangle)]
+#[tactic(auto, unfolding(crate::specs::Host::answer_to))]
 pub extern "C" fn bench_box_ask(words: &[u64; WORDS], length: usize, question: usize) -> u64
     ensures { result ≡ answer_to words.now length question }
 {

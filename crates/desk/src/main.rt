@@ -2,7 +2,9 @@
 // else is `desk_loop`.
 #![tactic(auto)]
 
-ghost use Rattle.std.specs.Prelude.{◌≡◌, true, false, ◌+◌, ◌≤◌, ◌<◌, length, take, drop, replicate};
+ghost use Rattle.std.specs.Prelude.{◌≡◌, ◌≢◌, true, ◌+◌, ◌≤◌, ◌<◌, [], length, take, drop, replicate, IfOk, OnOk, OnErr, IsErr, IfErr};
+ghost use Rattle.std.specs.IoError.{error_kind};
+ghost use Rattle.std.specs.Io.KnownBytes.{Appends, Consumes, IsAtEnd};
 ghost use Rattle.rules.specs.Record.{fresh};
 ghost use Rattle.stored.specs.Stored.{kept};
 ghost use Rattle.desk_line.specs.Line.{line_room};
@@ -10,53 +12,44 @@ ghost use Rattle.desk_stream.specs.Desk.{ring_room};
 ghost use Rattle.desk_stream.specs.Window.{longest};
 ghost use Rattle.desk_loop.specs.Program.{Brings, Stepped};
 
+use anyhow::Context;
 use desk_loop::Flow;
-use libc::{EPIPE, STDIN_FILENO, STDOUT_FILENO};
 use rules::Record;
+use std::io;
+use std::io::{ErrorKind, Read, Write};
 use stored::WORDS;
 
 // The paper's ring.
 const RING: usize = 4096;
 
-// How many bytes a read brought, and whether it failed.
-#[derive(Clone, Copy)]
-struct Got {
-    count: usize,
-    failed: bool,
-}
+// How many bytes the window of the input has, and how many the lines.
+const ROOM: usize = 65536;
 
-// Reads what has come, behind the first `held` bytes: at least one is asked for, so that none tells the end.
-fn read_behind(buf: &mut [u8], held: usize) -> Got
+// Reads what has come, behind the first `held` bytes: at least one is asked for, so that none tells the end. A read that fails brings
+// nothing.
+fn read_behind<R: Read>(input: &mut R, buf: &mut [u8], held: usize) -> io::Result<usize>
     requires { held < length buf.old }
-    ensures count_in_bounds { held + result.count ≤ length buf.new }
-    ensures brings { Brings buf.old held (take result.count (drop held buf.new)) buf.new }
+    ensures count_in_bounds { IfOk result (λ count. held + count ≤ length buf.new) }
+    ensures brings { IfOk result (λ count. Brings buf.old held (take count (drop held buf.new)) buf.new) }
+    ensures err { OnErr result (Brings buf.old held [] buf.new) }
+    ensures consumed { IfOk result (λ count. Consumes (R.remaining input.old) (R.remaining input.new) (take count (drop held buf.new))) }
+    ensures at_end { IfOk result (λ count. count ≡ 0 → IsAtEnd (R.remaining input.new)) }
 {
-    let got = libc::read(STDIN_FILENO, &mut buf[held..]);
-    if got < 0 {
-        os::fail(b"desk: standard input");
-        return Got {
-            count: 0,
-            failed: true,
-        };
-    }
-    Got {
-        count: io::count(got, &buf[held..]),
-        failed: false,
-    }
+    input.read(&mut buf[held..])
 }
 
-// Where the desk stands behind a turn, or that its read failed.
-#[derive(Clone, Copy)]
-struct Moved {
-    flow: Flow,
-    failed: bool,
-}
-
-// A turn, and before one that wants more input a read.
-fn advance(w: &mut [u64; WORDS], ring: &mut [u8], buf: &mut [u8], out: &mut [u8], f: Flow) -> Moved
+// A turn, and before one that wants more input a read. Only the read can fail: then there is no turn.
+fn advance(
+    input: &mut impl Read,
+    w: &mut [u64; WORDS],
+    ring: &mut [u8],
+    buf: &mut [u8],
+    out: &mut [u8],
+    f: Flow,
+) -> io::Result<Flow>
     requires held_in_bounds { f.held ≤ length buf.old }
     requires held_in_bounds_2 { f.wants ≡ true → f.held < length buf.old }
-    ensures stepped { result.failed ≡ false → Stepped
+    ensures stepped { IfOk result (λ flow. Stepped
         (record {
           flow = f;
           words = w.old;
@@ -65,49 +58,55 @@ fn advance(w: &mut [u64; WORDS], ring: &mut [u8], buf: &mut [u8], out: &mut [u8]
           lines = out.old;
         })
         (record {
-          flow = result.flow;
+          flow = flow;
           words = w.new;
           ring = ring.new;
           window = buf.new;
           lines = out.new;
-        }) }
-    ensures held_in_bounds_3 { result.flow.held ≤ length buf.new }
-    ensures written_in_bounds { result.failed ≡ false → result.flow.written ≤ length out.new }
+        })) }
+    ensures held_in_bounds_3 { IfOk result (λ flow. flow.held ≤ length buf.new) }
+    ensures written_in_bounds { IfOk result (λ flow. flow.written ≤ length out.new) }
+    ensures err_wants { IsErr result → f.wants ≡ true }
+    ensures err_window { OnErr result (Brings buf.old f.held [] buf.new) }
+    ensures err_rest { OnErr result ((w.new ≡ w.old) × (ring.new ≡ ring.old) × (out.new ≡ out.old)) }
 {
     if !f.wants {
-        return Moved {
-            flow: desk_loop::turn(w, ring, buf, out, f, 0),
-            failed: false,
-        };
+        return Ok(desk_loop::turn(w, ring, buf, out, f, 0));
     }
-    let got = read_behind(buf, f.held);
-    if got.failed {
-        return Moved {
-            flow: f,
-            failed: true,
-        };
-    }
-    Moved {
-        flow: desk_loop::turn(w, ring, buf, out, f, got.count),
-        failed: false,
-    }
+    let got = read_behind(input, buf, f.held)?;
+    Ok(desk_loop::turn(w, ring, buf, out, f, got))
 }
 
-// Writes the lines out. A reader that has gone is no failure to speak of; any other is.
-fn say(out: &[u8], filled: usize) -> bool
-    requires { filled ≤ length out.now }
+// Writes a text out, so that none of it waits in the writer.
+fn write_out<W: Write>(output: &mut W, text: &[u8]) -> io::Result<()>
+    ensures { OnOk result (Appends (W.contents output.old) (W.contents output.new) text.now) }
 {
-    if io::write_all(STDOUT_FILENO, &out[..filled]) {
-        return true;
+    output.write_all(text)?;
+    output.flush()
+}
+
+// Writes the lines out, and answers whether their reader is there. One that has gone is no failure to speak of; any other is.
+fn say<W: Write>(output: &mut W, out: &[u8], filled: usize) -> io::Result<bool>
+    requires { filled ≤ length out.now }
+    ensures written { IfOk result (λ is_read. is_read ≡ true → Appends (W.contents output.old) (W.contents output.new) (take filled out.now)) }
+    ensures err { IfErr result (λ e. error_kind e ≢ ErrorKind.BrokenPipe) }
+{
+    match write_out(output, &out[..filled]) {
+        Ok(()) => Ok(true),
+        Err(e) if e.kind() == ErrorKind::BrokenPipe => Ok(false),
+        Err(e) => Err(e),
     }
-    if os::errno() != EPIPE {
-        os::fail(b"desk: standard output");
-    }
-    false
 }
 
 // Step by step until all is said, from a fresh box with the desk's ring, a window for any record and room for any line.
-fn pump(w: &mut [u64; WORDS], ring: &mut [u8], buf: &mut [u8], out: &mut [u8])
+fn pump(
+    input: &mut impl Read,
+    output: &mut impl Write,
+    w: &mut [u64; WORDS],
+    ring: &mut [u8],
+    buf: &mut [u8],
+    out: &mut [u8],
+) -> anyhow::Result<()>
     requires w_value { w.old ≡ kept fresh }
     requires ring_value { ring.old ≡ replicate ring_room 0 }
     requires longest_in_bounds { longest ≤ length buf.old }
@@ -116,23 +115,27 @@ fn pump(w: &mut [u64; WORDS], ring: &mut [u8], buf: &mut [u8], out: &mut [u8])
     let mut f = desk_loop::begin();
     let mut turns = u64::MAX;
     while turns > 0 && !f.over {
-        let moved = advance(w, ring, buf, out, f);
-        if moved.failed {
-            return;
-        }
-        f = moved.flow;
-        if !say(out, f.written) {
-            return;
+        f = advance(input, w, ring, buf, out, f).context("desk: standard input")?;
+        if !say(output, out, f.written).context("desk: standard output")? {
+            return Ok(());
         }
         turns -= 1;
     }
+    Ok(())
 }
 
-fn main() {
-    let mut buf = io::large_buffer();
-    let mut out = io::large_buffer();
+fn main(rt: HostRuntime) -> anyhow::Result<()> {
+    let mut buf = [0u8; ROOM];
+    let mut out = [0u8; ROOM];
     let mut ring = [0u8; RING];
     let mut words = [0u64; WORDS];
     stored::keep(&mut words, Record::fresh());
-    pump(&mut words, &mut ring, &mut buf, &mut out);
+    pump(
+        &mut rt.stdin(),
+        &mut rt.stdout(),
+        &mut words,
+        &mut ring,
+        &mut buf,
+        &mut out,
+    )
 }

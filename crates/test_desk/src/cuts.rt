@@ -1,7 +1,8 @@
 // A stream all at once, and as it grows by some bytes, with much and with little room for the lines.
 use crate::files::{NOWHERE, part};
-use crate::{say, say_count};
+use crate::{ROOM, say, say_count};
 use desk_stream::Came;
+use std::io;
 use stored::WORDS;
 
 // Where a run stands: the bytes before `at` are answered, those before `come` have come, and `said` bytes of text are gathered.
@@ -94,49 +95,58 @@ fn alike(a: &[u8], b: &[u8]) -> usize {
 }
 
 fn cut(
+    rt: &impl Print,
     start: &[u64; WORDS],
     ring: &mut [u8],
     s: &[u8],
     right: &[u8],
     step: usize,
     out: &mut [u8],
-) -> bool {
-    let mut said = io::large_buffer();
+) -> io::Result<bool> {
+    let mut said = [0u8; ROOM];
     let n = gather(start, ring, s, step, out, &mut said);
     let at = alike(part(&said, 0, n), right);
     if (at == n) & (at == right.len()) {
-        return true;
+        return Ok(true);
     }
-    say_count(b"at byte ", at as u64);
-    say_count(b" with a step of ", step as u64);
-    say_count(b" and room for ", out.len() as u64);
-    say(b"; ");
-    false
+    say_count(rt, b"at byte ", at as u64)?;
+    say_count(rt, b" with a step of ", step as u64)?;
+    say_count(rt, b" and room for ", out.len() as u64)?;
+    say(rt, b"; ")?;
+    Ok(false)
 }
 
 // In three rooms, where all before was right.
 fn rooms(
+    rt: &impl Print,
     a: bool,
     start: &[u64; WORDS],
     ring: &mut [u8],
     s: &[u8],
     right: &[u8],
     step: usize,
-) -> bool {
-    let mut large = io::large_buffer();
+) -> io::Result<bool> {
+    let mut large = [0u8; ROOM];
     let mut one = [0u8; 640];
     let mut some = [0u8; 1000];
     if !a {
-        return false;
+        return Ok(false);
     }
-    let b = cut(start, ring, s, right, step, &mut large);
-    let c = cut(start, ring, s, right, step, &mut one);
-    b & c & cut(start, ring, s, right, step, &mut some)
+    let b = cut(rt, start, ring, s, right, step, &mut large)?;
+    let c = cut(rt, start, ring, s, right, step, &mut one)?;
+    let d = cut(rt, start, ring, s, right, step, &mut some)?;
+    Ok(b & c & d)
 }
 
-pub fn are_right(start: &[u64; WORDS], ring: &mut [u8], s: &[u8], right: &[u8]) -> bool {
-    let a = rooms(true, start, ring, s, right, 0);
-    let b = rooms(a, start, ring, s, right, 1);
-    let c = rooms(b, start, ring, s, right, 7);
-    rooms(c, start, ring, s, right, 300)
+pub fn are_right(
+    rt: &impl Print,
+    start: &[u64; WORDS],
+    ring: &mut [u8],
+    s: &[u8],
+    right: &[u8],
+) -> io::Result<bool> {
+    let a = rooms(rt, true, start, ring, s, right, 0)?;
+    let b = rooms(rt, a, start, ring, s, right, 1)?;
+    let c = rooms(rt, b, start, ring, s, right, 7)?;
+    rooms(rt, c, start, ring, s, right, 300)
 }

@@ -3,6 +3,7 @@
 use crate::cuts::are_right;
 use crate::files::{behind, part};
 use crate::{Tally, say, say_count};
+use std::io;
 use stored::WORDS;
 
 // How many records are whole, and the place behind them: a bad one's, or the end.
@@ -95,23 +96,25 @@ pub fn add(n: u64, holds: bool) -> u64 {
     std::num::wrapping_add_u64(n, holds as u64)
 }
 
-fn tell(is_right: bool, c: Spot) {
+fn tell(rt: &impl Print, is_right: bool, c: Spot) -> io::Result<()> {
     if !is_right {
-        say_count(b"with byte ", c.at as u64);
-        say_count(b" changed by ", c.bits as u64);
-        say(b"; ");
+        say_count(rt, b"with byte ", c.at as u64)?;
+        say_count(rt, b" changed by ", c.bits as u64)?;
+        say(rt, b"; ")?;
     }
+    Ok(())
 }
 
 // Tries a damaged stream: what stands before the damaged record is answered as before, and the rest as the walk tells.
 fn tried(
+    rt: &impl Print,
     start: &[u64; WORDS],
     ring: &mut [u8],
     s: &[u8],
     right: &[u8],
     c: Spot,
     t: Tally,
-) -> Tally {
+) -> io::Result<Tally> {
     let before = walk(part(s, 0, c.at));
     let w = walk(s);
     let is_bad = w.at < s.len();
@@ -122,11 +125,11 @@ fn tried(
     let said = part(&out, 0, came.written);
     let mut all = t;
     all.right = is_reached & is_told(said, right, before.records, w, is_bad);
-    tell(all.right, c);
+    tell(rt, all.right, c)?;
     all.prefixes = add(t.prefixes, c.bits == 0);
     all.answered = add(t.answered, (c.bits > 0) & !is_bad);
     all.bad = add(t.bad, (c.bits > 0) & is_bad);
-    all
+    Ok(all)
 }
 
 // The next damage. With `every` 1 each byte gets its 255 other values, else every seventh byte five of them.
@@ -145,23 +148,24 @@ fn onward(c: Spot, every: u64, len: usize) -> Spot {
 
 // Tries a stream in cuts, and where `every` is not 0 with damage.
 pub fn hold(
+    rt: &impl Print,
     start: &[u64; WORDS],
     ring: &mut [u8],
     s: &mut [u8],
     right: &[u8],
     every: u64,
     t: Tally,
-) -> Tally {
+) -> io::Result<Tally> {
     let mut all = t;
-    all.right = are_right(start, ring, s, right);
+    all.right = are_right(rt, start, ring, s, right)?;
     let mut c = Spot { at: 0, bits: 0 };
     let mut left: usize = 1000000;
     while left > 0 && every > 0 && all.right && c.at <= s.len() {
         flip(s, c);
-        all = tried(start, ring, shown(s, c), right, c, all);
+        all = tried(rt, start, ring, shown(s, c), right, c, all)?;
         flip(s, c);
         c = onward(c, every, s.len());
         left -= 1;
     }
-    all
+    Ok(all)
 }

@@ -1,4 +1,9 @@
 // The files of data/: bytes, hexadecimal digits, and the words of the list.
+use crate::ROOM;
+use std::io::Read;
+use std::rt::Files;
+use std::{fs, io, str};
+
 pub const NOWHERE: usize = 18446744073709551615;
 
 // The bytes from `at` to `end`, or none where there are no such.
@@ -53,19 +58,37 @@ pub fn number(s: &[u8]) -> u64 {
     n
 }
 
-// A file's bytes, and their number; the buffer's length where there is no such file, or it does not fit.
-pub fn load(name: &[u8], kind: &[u8], buf: &mut [u8]) -> usize {
-    let mut path = [0u8; 64];
-    let a = desk_text::put_bytes(&mut path, 0, name);
-    let b = desk_text::put_bytes(&mut path, a, kind);
-    let fd = os::open_read(part(&path, 0, b));
-    if fd < 0 {
-        os::fail(part(&path, 0, b));
-        return buf.len();
+// Reads until the buffer is full, the file ends or a read fails, and answers how many bytes it put at the buffer's front.
+fn read_full(file: &mut impl Read, buf: &mut [u8]) -> usize {
+    let mut done: usize = 0;
+    while done < buf.len() {
+        match file.read(&mut buf[done..]) {
+            Ok(0) | Err(_) => break,
+            Ok(n) => done += n,
+        }
     }
-    let len = io::read_full(fd, buf);
-    libc::close(fd);
-    len
+    done
+}
+
+// A file's bytes, and their number; the buffer's length where there is no such file, or it does not fit. A path is text: where the
+// bytes are none, it is the empty one, which no file has.
+pub fn load(
+    rt: &(impl Files + Eprint),
+    name: &[u8],
+    kind: &[u8],
+    buf: &mut [u8],
+) -> io::Result<usize> {
+    let mut bytes = [0u8; 64];
+    let a = desk_text::put_bytes(&mut bytes, 0, name);
+    let b = desk_text::put_bytes(&mut bytes, a, kind);
+    let path = str::from_utf8(part(&bytes, 0, b)).unwrap_or("");
+    match fs::open(rt, path) {
+        Ok(mut file) => Ok(read_full(&mut file, buf)),
+        Err(e) => {
+            eprintln!(rt; "{path}: {e}")?;
+            Ok(buf.len())
+        }
+    }
 }
 
 // Puts the digit behind `n` others, two to a byte, and passes a blank. There is no place for any other byte, nor past the end.
@@ -99,11 +122,16 @@ fn unhex(s: &[u8], out: &mut [u8]) -> usize {
 }
 
 // A stream, of bytes or of digits.
-pub fn stream(name: &[u8], kind: &[u8], buf: &mut [u8]) -> usize {
+pub fn stream(
+    rt: &(impl Files + Eprint),
+    name: &[u8],
+    kind: &[u8],
+    buf: &mut [u8],
+) -> io::Result<usize> {
     if !check::same(kind, b".hex") {
-        return load(name, kind, buf);
+        return load(rt, name, kind, buf);
     }
-    let mut digits = io::large_buffer();
-    let len = load(name, kind, &mut digits);
-    unhex(part(&digits, 0, len), buf)
+    let mut digits = [0u8; ROOM];
+    let len = load(rt, name, kind, &mut digits)?;
+    Ok(unhex(part(&digits, 0, len), buf))
 }

@@ -9,13 +9,17 @@
 #![tactic(auto)]
 
 use files::{behind, part, word};
-use libc::STDOUT_FILENO;
 use rules::{Failure, Named, Names, Record, Scan, Scanner};
+use std::io;
+use std::rt::Files;
 use stored::WORDS;
 
 mod cuts;
 mod damage;
 mod files;
+
+// How many bytes a file has at most, a stream, and the text of one.
+pub const ROOM: usize = 65536;
 
 // What was tried: cases, prefixes, and changes that were answered or bad. `right` says that the present case does not differ so far.
 #[derive(Clone, Copy)]
@@ -28,13 +32,13 @@ pub struct Tally {
     pub bad: u64,
 }
 
-pub fn say(s: &[u8]) {
-    io::write_all(STDOUT_FILENO, s);
+pub fn say(rt: &impl Print, s: &[u8]) -> io::Result<()> {
+    rt.write_all(s)
 }
 
-pub fn say_count(what: &[u8], n: u64) {
-    say(what);
-    io::print_decimal(STDOUT_FILENO, n);
+pub fn say_count(rt: &impl Print, what: &[u8], n: u64) -> io::Result<()> {
+    say(rt, what)?;
+    rt.print(n)
 }
 
 // J0000000001001.jpg, and J0000000001998.jpg.
@@ -82,28 +86,37 @@ fn start(word: &[u8]) -> Record {
 }
 
 // A case's files read, and its stream tried.
-fn read(name: &[u8], kind: &[u8], len: u64, r: Record, every: u64, t: Tally) -> Tally {
-    let mut input = io::large_buffer();
-    let mut right = io::large_buffer();
+fn read(
+    rt: &(impl Files + Print + Eprint),
+    name: &[u8],
+    kind: &[u8],
+    len: u64,
+    r: Record,
+    every: u64,
+    t: Tally,
+) -> io::Result<Tally> {
+    let mut input = [0u8; ROOM];
+    let mut right = [0u8; ROOM];
     let mut ring = [0u8; 65537];
     let from: usize = 0;
-    let n = files::stream(name, kind, &mut input);
-    let m = files::load(name, b".txt", &mut right);
+    let n = files::stream(rt, name, kind, &mut input)?;
+    let m = files::load(rt, name, b".txt", &mut right)?;
     let mut all = t;
     all.right = false;
     if n > 65535 {
-        say(b"not read; ");
-        return all;
+        say(rt, b"not read; ")?;
+        return Ok(all);
     }
     if len > 65537 {
-        say(b"no such ring; ");
-        return all;
+        say(rt, b"no such ring; ")?;
+        return Ok(all);
     }
     let len = len as usize;
     let text = part(&right, 0, m);
     let mut words = [0u64; WORDS];
     stored::keep(&mut words, r);
     damage::hold(
+        rt,
         &words,
         &mut ring[from..len],
         &mut input[from..n],
@@ -114,7 +127,7 @@ fn read(name: &[u8], kind: &[u8], len: u64, r: Record, every: u64, t: Tally) -> 
 }
 
 // The case at a place of the list. Where it differs is told before its name.
-fn case(list: &[u8], at: usize, t: Tally) -> Tally {
+fn case(rt: &(impl Files + Print + Eprint), list: &[u8], at: usize, t: Tally) -> io::Result<Tally> {
     let a = behind(list, at, 1, b' ');
     let b = behind(list, a, 1, b' ');
     let c = behind(list, b, 1, b' ');
@@ -124,18 +137,18 @@ fn case(list: &[u8], at: usize, t: Tally) -> Tally {
     let len = files::number(word(list, b, c));
     let r = start(word(list, c, d));
     let every = files::number(word(list, d, e));
-    let mut all = read(name, word(list, a, b), len, r, every, t);
+    let mut all = read(rt, name, word(list, a, b), len, r, every, t)?;
     all.cases = damage::add(t.cases, true);
     all.differ = damage::add(t.differ, !all.right);
     if !all.right {
-        say(b"differs: ");
-        say(name);
-        say(b"\n");
+        say(rt, b"differs: ")?;
+        say(rt, name)?;
+        say(rt, b"\n")?;
     }
-    all
+    Ok(all)
 }
 
-fn cases(list: &[u8]) -> Tally {
+fn cases(rt: &(impl Files + Print + Eprint), list: &[u8]) -> io::Result<Tally> {
     let mut all = Tally {
         right: true,
         cases: 0,
@@ -147,21 +160,21 @@ fn cases(list: &[u8]) -> Tally {
     let mut at: usize = 0;
     let mut left: usize = 1000;
     while left > 0 && at < list.len() {
-        all = case(list, at, all);
+        all = case(rt, list, at, all)?;
         at = behind(list, at, 1, b'\n');
         left -= 1;
     }
-    all
+    Ok(all)
 }
 
-fn main() {
-    let mut list = io::large_buffer();
-    let n = files::load(b"list", b"", &mut list);
-    let t = cases(part(&list, 0, n));
-    say_count(b"", t.cases);
-    say_count(b" cases, ", t.differ);
-    say_count(b" differ\n", t.prefixes);
-    say_count(b" prefixes; bytes changed: ", t.answered);
-    say_count(b" answered, ", t.bad);
-    say(b" bad\n");
+fn main(rt: HostRuntime) -> io::Result<()> {
+    let mut list = [0u8; ROOM];
+    let n = files::load(&rt, b"list", b"", &mut list)?;
+    let t = cases(&rt, part(&list, 0, n))?;
+    say_count(&rt, b"", t.cases)?;
+    say_count(&rt, b" cases, ", t.differ)?;
+    say_count(&rt, b" differ\n", t.prefixes)?;
+    say_count(&rt, b" prefixes; bytes changed: ", t.answered)?;
+    say_count(&rt, b" answered, ", t.bad)?;
+    say(&rt, b" bad\n")
 }
