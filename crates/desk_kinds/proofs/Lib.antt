@@ -1,3 +1,4 @@
+pub mod Cases
 pub mod BigEndian
 pub mod Entries
 pub mod Payloads

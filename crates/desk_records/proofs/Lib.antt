@@ -1,3 +1,4 @@
+pub mod Cases
 pub mod Admits
 pub mod Fronts
 pub mod Heard

@@ -1,4 +1,3 @@
 pub mod Reading
 pub mod Writing
 pub mod Hearing
-pub mod Cases

@@ -1,3 +1,4 @@
+pub mod Cases
 pub mod Replies
 pub mod Input
 pub mod Hearing

@@ -3,4 +3,3 @@ pub mod Window
 pub mod Held
 pub mod Boxed
 pub mod Runs
-pub mod Cases

@@ -1,4 +1,3 @@
 pub mod Digits
 pub mod Put
 pub mod Literal
-pub mod Cases

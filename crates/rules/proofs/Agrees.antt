@@ -3,10 +3,10 @@
 use mathlib.Core.List.{List, [], ◌∷◌}
 use Rattle.rules.specs.Promises.{All}
 use Rattle.rules.specs.Cases.{Case, Right}
-use Rattle.rules.specs.Table.{table}
-use Rattle.rules.specs.Judged.{soundness}
-use Rattle.rules.specs.Watched.{lives}
-use Rattle.rules.specs.Worded.{borne}
+use Rattle.rules.proofs.Table.{table}
+use Rattle.rules.proofs.Judged.{soundness}
+use Rattle.rules.proofs.Watched.{lives}
+use Rattle.rules.proofs.Worded.{borne}
 
 pub all_right : {A : Type 0} (cs : List (Case A)) → All Right cs
 all_right [] = tt

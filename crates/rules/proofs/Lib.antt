@@ -1,3 +1,8 @@
+-- The cases that hold the definitions to the paper; then what is proved of any list of calls.
+pub mod Table
+pub mod Judged
+pub mod Watched
+pub mod Worded
 pub mod Agrees
 pub mod Choice
 pub mod Guards

@@ -21,7 +21,7 @@ use Rattle.rules.specs.Watch.{was_accepted, sign, scan_of, Tagged, last_name, ch
 use Rattle.rules.specs.Promises.{reasons, below, bears, All, Ringed, First, OneOf, Refusal, Sides, Ends, OnTime, Fate, Silent, NotPutOff}
 use Rattle.rules.specs.Promises.{OfAnother, destination_of, FollowsName, Yields}
 use Rattle.rules.specs.Cases.{Case, Right}
-use Rattle.rules.specs.Table.{table}
+use Rattle.rules.proofs.Table.{table}
 use Rattle.rules.proofs.Agrees as agrees
 use Rattle.rules.proofs.Choice.{choice}
 use Rattle.rules.proofs.Sound.{to-sound, from-sound}

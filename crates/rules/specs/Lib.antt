@@ -1,4 +1,4 @@
--- What a reader must believe, in the paper's order; then the cases that hold it to the paper.
+-- What a reader must believe, in the paper's order; then what a case is. The cases that hold it to the paper stand in proofs/.
 pub mod Name
 pub mod Record
 pub mod Ring
@@ -9,7 +9,3 @@ pub mod Machine
 pub mod Watch
 pub mod Promises
 pub mod Cases
-pub mod Table
-pub mod Judged
-pub mod Watched
-pub mod Worded

@@ -13,7 +13,7 @@ use Rattle.answers.specs.declared.Request.TheVariants.{Fetch}
 use Rattle.desk_text.specs.Digits.{last_digits, hexes}
 use Rattle.desk_text.specs.Literal.{text, bytes}
 use Rattle.desk_kinds.specs.Kinds.{asking_of}
-use Rattle.desk_records.specs.Cases.{reads}
+use Rattle.desk_records.proofs.Cases.{reads}
 use Rattle.desk_line.specs.Line.{line_of}
 use Rattle.stored.specs.Stored.{kept, all_fit, recorded, is_box}
 use Rattle.desk_stream.specs.Window.{piece, served}
