@@ -4,7 +4,7 @@
 
 ghost use Rattle.std.specs.Prelude.{◌≡◌, ◌≢◌, true, ◌+◌, ◌≤◌, ◌<◌, [], length, take, drop, replicate, IfOk, OnOk, OnErr, IsErr, IfErr};
 ghost use Rattle.std.specs.IoError.{error_kind};
-ghost use Rattle.std.specs.Io.KnownBytes.{Appends, Consumes, IsAtEnd};
+ghost use Rattle.std.specs.Io.KnownBytes.{Appends, Consumes, IsAtEnd, Keeps};
 ghost use Rattle.rules.specs.Record.{fresh};
 ghost use Rattle.stored.specs.Stored.{kept};
 ghost use Rattle.desk_line.specs.Line.{line_room};
@@ -32,6 +32,7 @@ fn read_behind<R: Read>(input: &mut R, buf: &mut [u8], held: usize) -> io::Resul
     ensures count_in_bounds { IfOk result (λ count. held + count ≤ length buf.new) }
     ensures brings { IfOk result (λ count. Brings buf.old held (take count (drop held buf.new)) buf.new) }
     ensures err { OnErr result (Brings buf.old held [] buf.new) }
+    ensures err_input { OnErr result (Keeps (R.remaining input.old) (R.remaining input.new)) }
     ensures consumed { IfOk result (λ count. Consumes (R.remaining input.old) (R.remaining input.new) (take count (drop held buf.new))) }
     ensures at_end { IfOk result (λ count. count ≡ 0 → IsAtEnd (R.remaining input.new)) }
 {
@@ -39,8 +40,8 @@ fn read_behind<R: Read>(input: &mut R, buf: &mut [u8], held: usize) -> io::Resul
 }
 
 // A turn, and before one that wants more input a read. Only the read can fail: then there is no turn.
-fn advance(
-    input: &mut impl Read,
+fn advance<R: Read>(
+    input: &mut R,
     w: &mut [u64; WORDS],
     ring: &mut [u8],
     buf: &mut [u8],
@@ -67,6 +68,7 @@ fn advance(
     ensures held_in_bounds_3 { IfOk result (λ flow. flow.held ≤ length buf.new) }
     ensures written_in_bounds { IfOk result (λ flow. flow.written ≤ length out.new) }
     ensures err_wants { IsErr result → f.wants ≡ true }
+    ensures err_input { OnErr result (Keeps (R.remaining input.old) (R.remaining input.new)) }
     ensures err_window { OnErr result (Brings buf.old f.held [] buf.new) }
     ensures err_rest { OnErr result ((w.new ≡ w.old) × (ring.new ≡ ring.old) × (out.new ≡ out.old)) }
 {
@@ -77,7 +79,7 @@ fn advance(
     Ok(desk_loop::turn(w, ring, buf, out, f, got))
 }
 
-// Writes a text out, so that none of it waits in the writer.
+// Writes a text out, so that none of it waits in the writer. How much of it is out after an error is not told.
 fn write_out<W: Write>(output: &mut W, text: &[u8]) -> io::Result<()>
     ensures { OnOk result (Appends (W.contents output.old) (W.contents output.new) text.now) }
 {
@@ -85,7 +87,8 @@ fn write_out<W: Write>(output: &mut W, text: &[u8]) -> io::Result<()>
     output.flush()
 }
 
-// Writes the lines out, and answers whether their reader is there. One that has gone is no failure to speak of; any other is.
+// Writes the lines out, and answers whether their reader is there. One that has gone is no failure to speak of; any other is. How
+// much of them is out where not all could be written is not told.
 fn say<W: Write>(output: &mut W, out: &[u8], filled: usize) -> io::Result<bool>
     requires { filled ≤ length out.now }
     ensures written { IfOk result (λ is_read. is_read ≡ true → Appends (W.contents output.old) (W.contents output.new) (take filled out.now)) }
@@ -98,7 +101,8 @@ fn say<W: Write>(output: &mut W, out: &[u8], filled: usize) -> io::Result<bool>
     }
 }
 
-// Step by step until all is said, from a fresh box with the desk's ring, a window for any record and room for any line.
+// Step by step until all is said, from a fresh box with the desk's ring, a window for any record and room for any line. Its error is
+// that of a read or of a write, with where it was.
 fn pump(
     input: &mut impl Read,
     output: &mut impl Write,

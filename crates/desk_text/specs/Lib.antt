@@ -1,3 +1,4 @@
 pub mod Digits
 pub mod Put
 pub mod Literal
+pub mod Cases

@@ -37,6 +37,7 @@ pub fn count(words: [u64; WORDS])
 {}
 
 // The numbers are of this version and each fits its field.
+#[tactic(auto, unfolding(crate::specs::Stored::all_fit))]
 pub fn fits(w: &[u64; WORDS]) -> bool
     ensures { result ≡ all_fit w.now }
 {
