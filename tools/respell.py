@@ -6,7 +6,7 @@
 Words are in snake case: `scanRefusals` becomes `scan_refusals`, and `timedOut-sound` becomes `timed_out-sound`. The texts and names of
 a case, `J41-006` and `K41-006`, begin with a small letter. A fact is spelled as a type: `short` of desk_line becomes `Short`.
 Constructors that are the calls' own names (`StartScan`, `Tick`) stay as they are, and so do strings, the functions of src/, exported
-names, inputs and outputs. It is run once; it says which names fall together, and then changes nothing.
+names, inputs and outputs. It is run once, and says which words fall together with others.
 """
 import collections
 import pathlib
