@@ -1,7 +1,7 @@
 //! Copies of the rules with changes in them, and what a check says of each.
 
 use crate::files::without_functions;
-use crate::rules::FILES;
+use crate::rules::{FILES, TABLE};
 use std::collections::{BTreeMap, HashSet};
 use std::fs;
 use std::path::{Path, PathBuf};
@@ -24,7 +24,10 @@ impl Verdict {
     }
 }
 
-/// The modules of specs/ with their texts, as specs/Lib.antt has them.
+/// Where modules stand.
+const FOLDERS: [&str; 2] = ["specs", "proofs"];
+
+/// The modules of specs/, as specs/Lib.antt has them, and the table's of proofs/, as `specs.Moves` with their texts.
 pub struct Specs {
     modules: Vec<(String, String)>,
     library: String,
@@ -32,7 +35,12 @@ pub struct Specs {
 
 /// How one module names another.
 fn named(module: &str) -> String {
-    format!("specs.specs.{module}.")
+    format!("Rattle.rules.{module}.")
+}
+
+/// The file that a module is.
+fn file(folder: &Path, module: &str) -> PathBuf {
+    folder.join(format!("{}.antt", module.replace('.', "/")))
 }
 
 impl Specs {
@@ -40,8 +48,10 @@ impl Specs {
         let read = |path: PathBuf| fs::read_to_string(&path).map_err(|error| format!("{}: {error}", path.display()));
         let all = read(folder.join("specs/Lib.antt"))?;
         let names = all.lines().filter_map(|line| line.strip_prefix("pub mod "));
+        let specs = names.map(|name| format!("specs.{name}"));
+        let table = TABLE.iter().map(|name| format!("proofs.{name}"));
         let modules: Result<Vec<(String, String)>, String> =
-            names.map(|name| Ok((name.to_string(), read(folder.join(format!("specs/{name}.antt")))?))).collect();
+            specs.chain(table).map(|name| Ok((name.clone(), read(file(folder, &name))?))).collect();
         Ok(Specs { modules: modules?, library: without_functions(&read(folder.join("src/lib.rt"))?) })
     }
 
@@ -69,9 +79,10 @@ impl Specs {
     fn files(&self, changed: &[(&str, String)]) -> BTreeMap<String, String> {
         let mut files = BTreeMap::new();
         for (place, (module, new)) in changed.iter().enumerate() {
-            let users = self.users(module);
+            let module = format!("specs.{module}");
+            let users = self.users(&module);
             for (name, text) in self.modules.iter().filter(|(name, _)| users.contains(name.as_str())) {
-                let mut text = if name == module { new.clone() } else { text.clone() };
+                let mut text = if *name == module { new.clone() } else { text.clone() };
                 for user in &users {
                     text = text.replace(&named(user), &named(&copy(user, place)));
                 }
@@ -104,18 +115,23 @@ pub struct Bench<'a> {
 
 impl Bench<'_> {
     fn write(&self, changed: &[(&str, String)]) -> std::io::Result<()> {
-        let (specs, source) = (self.folder.join("specs"), self.folder.join("src"));
-        if specs.exists() {
-            fs::remove_dir_all(&specs)?;
-        }
-        fs::create_dir_all(&specs)?;
+        let source = self.folder.join("src");
         fs::create_dir_all(&source)?;
+        fs::write(self.folder.with_file_name("crates.txt"), "rules:\n")?;
         fs::write(source.join("lib.rt"), &self.specs.library)?;
         let files = self.specs.files(changed);
-        let all: String = files.keys().map(|name| format!("pub mod {name}\n")).collect();
-        fs::write(specs.join("Lib.antt"), all)?;
-        for (name, text) in files {
-            fs::write(specs.join(format!("{name}.antt")), text)?;
+        for part in FOLDERS {
+            let folder = self.folder.join(part);
+            if folder.exists() {
+                fs::remove_dir_all(&folder)?;
+            }
+            fs::create_dir_all(&folder)?;
+            let names = files.keys().filter_map(|module| module.strip_prefix(part)?.strip_prefix('.'));
+            let all: String = names.map(|name| format!("pub mod {name}\n")).collect();
+            fs::write(folder.join("Lib.antt"), all)?;
+        }
+        for (module, text) in files {
+            fs::write(file(&self.folder, &module), text)?;
         }
         Ok(())
     }
@@ -125,10 +141,9 @@ impl Bench<'_> {
         let room = self.folder.with_file_name("room");
         fs::create_dir_all(&room)?;
         let child = Command::new("timeout")
-            .args(["-k", "5", SECONDS, "rt", "check"])
-            .arg(&self.folder)
+            .args(["-k", "5", SECONDS, "rt", "check", "--jobs", "1"])
+            .current_dir(&self.folder)
             .env("TMPDIR", &room)
-            .env("RT_CUT", "400")
             .stdin(Stdio::null())
             .stdout(Stdio::piped())
             .stderr(Stdio::piped())
@@ -153,14 +168,16 @@ impl Bench<'_> {
         if output.status.success() && said.contains("logic=proved") {
             return all(Verdict::Survives);
         }
-        let specs = format!("{}/specs/", self.folder.display());
         let errors: Vec<&str> = said
             .lines()
-            .filter_map(|line| line.strip_prefix(&specs))
+            .filter_map(|line| FOLDERS.iter().find_map(|part| line.strip_prefix(&format!("./{part}/"))))
             .filter(|line| line.contains(": error: "))
             .collect();
         match errors.first() {
-            None => return all(Verdict::NoAnswer(format!("no answer: {}", said.lines().last().unwrap_or("")))),
+            None => {
+                let last = said.lines().last().unwrap_or("");
+                return all(Verdict::NoAnswer(format!("no answer, {}: {last}", output.status)));
+            }
             Some(error) if changed.is_empty() => return all(Verdict::Refused(error.to_string())),
             Some(_) => {}
         }

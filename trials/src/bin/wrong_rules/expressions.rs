@@ -34,6 +34,14 @@ impl Expr {
         }
     }
 
+    /// Without the parentheses round it.
+    pub fn bare(&self) -> &Expr {
+        match &self.node {
+            Node::Group(inner) => inner.bare(),
+            _ => self,
+        }
+    }
+
     pub fn children(&self) -> Vec<&Expr> {
         match &self.node {
             Node::Name(_) | Node::Number => Vec::new(),
@@ -138,29 +146,34 @@ impl Parser<'_> {
         Some(left)
     }
 
-    /// A field is taken of all that stands before it.
     fn call(&mut self) -> Option<Expr> {
-        let mut head = self.atom()?;
+        let head = self.atom()?;
+        let mut arguments = Vec::new();
+        while let Some(argument) = self.atom() {
+            arguments.push(argument);
+        }
+        let Some(last) = arguments.last() else {
+            return Some(head);
+        };
+        let (start, end) = (head.start, last.end);
+        Some(self.expr(start, end, Node::Call(Box::new(head), arguments)))
+    }
+
+    /// A field is taken of what it touches.
+    pub fn atom(&mut self) -> Option<Expr> {
+        let mut found = self.alone()?;
         loop {
-            let mut arguments = Vec::new();
-            while let Some(argument) = self.atom() {
-                arguments.push(argument);
-            }
-            if let Some(last) = arguments.last() {
-                let (start, end) = (head.start, last.end);
-                head = self.expr(start, end, Node::Call(Box::new(head), arguments));
-            }
-            if self.word() != Some(Word::Field) {
-                return Some(head);
-            }
-            let token = &self.tokens[self.place];
-            let (start, end, field) = (head.start, token.end, token.text[1..].to_string());
+            let touches = |token: &&Token| token.word == Word::Field && token.start == found.end;
+            let Some(token) = self.tokens.get(self.place).filter(touches) else {
+                return Some(found);
+            };
+            let (start, end, field) = (found.start, token.end, token.text[1..].to_string());
             self.place += 1;
-            head = self.expr(start, end, Node::Field(Box::new(head), field));
+            found = self.expr(start, end, Node::Field(Box::new(found), field));
         }
     }
 
-    pub fn atom(&mut self) -> Option<Expr> {
+    fn alone(&mut self) -> Option<Expr> {
         let token = self.tokens.get(self.place)?.clone();
         let (start, end) = (token.start, token.end);
         match (token.word, token.text.as_str()) {

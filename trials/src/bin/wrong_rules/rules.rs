@@ -11,6 +11,9 @@ use std::path::Path;
 /// The files of definitions, each after those that it uses. All other files of specs/ are the table's.
 pub const FILES: [&str; 9] = ["Name", "Record", "Ring", "Calls", "Feeder", "Moves", "Machine", "Watch", "Promises"];
 
+/// The table's files of proofs/; the proofs stand in the others.
+pub const TABLE: [&str; 4] = ["Table", "Judged", "Watched", "Worded"];
+
 /// What the rules use of the libraries. A single small letter is any type.
 const LIBRARY: [(&str, &str); 22] = [
     ("zero", "ℕ"),
@@ -28,7 +31,7 @@ const LIBRARY: [(&str, &str); 22] = [
     ("leb", "ℕ → ℕ → Bool"),
     ("ltb", "ℕ → ℕ → Bool"),
     ("length", "List a → ℕ"),
-    ("getD", "List a → ℕ → a → a"),
+    ("get_or", "List a → ℕ → a → a"),
     ("set", "List a → ℕ → a → List a"),
     ("take", "ℕ → List a → List a"),
     ("drop", "ℕ → List a → List a"),

@@ -29,6 +29,16 @@ fn word_of(word: &str) -> Word {
     }
 }
 
+/// `r.job.held` is a name and two fields; a variant is one name, as `Scan.Idle`.
+fn parts(word: &str) -> Vec<&str> {
+    let dots = word.match_indices('.').map(|(place, _)| place);
+    let whole = word.starts_with(char::is_uppercase);
+    let mut cuts: Vec<usize> = dots.filter(|place| *place > 0 && !whole).collect();
+    cuts.insert(0, 0);
+    cuts.push(word.len());
+    cuts.windows(2).map(|pair| &word[pair[0]..pair[1]]).collect()
+}
+
 /// The words of a text with their places; comments are left out.
 pub fn tokens(text: &str, base: usize) -> Vec<Token> {
     let mut found = Vec::new();
@@ -46,8 +56,12 @@ pub fn tokens(text: &str, base: usize) -> Vec<Token> {
             continue;
         }
         if !first.is_whitespace() {
-            let word_kind = if "(){};,".contains(first) { Word::Mark } else { word_of(word) };
-            found.push(Token { word: word_kind, text: word.to_string(), start, end: start + length });
+            let mut start = start;
+            for part in parts(word) {
+                let word_kind = if "(){};,".contains(first) { Word::Mark } else { word_of(part) };
+                found.push(Token { word: word_kind, text: part.to_string(), start, end: start + part.len() });
+                start += part.len();
+            }
         }
         rest = &rest[length..];
     }

@@ -124,7 +124,7 @@ impl Maker<'_> {
         match operator {
             "&&" | "||" => {
                 let other = if operator == "&&" { "||" } else { "&&" };
-                if self.uses(&format!("_{other}_")) {
+                if self.uses(&format!("◌{other}◌")) {
                     self.add("and for or", sign, other, &shown);
                 }
                 // A chain groups to the right, so that the left side is one test, and the right one too at its end.
@@ -152,7 +152,7 @@ impl Maker<'_> {
                     "%" => "/",
                     _ => "*",
                 };
-                if self.uses(&format!("_{other}_")) {
+                if self.uses(&format!("◌{other}◌")) {
                     self.add("other operator", sign, other, &shown);
                 }
                 self.add("right side dropped", (left.end, expr.end), "", &shown);

@@ -62,8 +62,7 @@ impl Maker<'_> {
         if self.rules.records.contains_key(ty.name()) {
             let path = self.paths(expr, ty.name(), 1).into_iter().find(|path| self.lets.get(name) != Some(path));
             if let Some(path) = path {
-                let alone = shown.start == expr.start && shown.end == expr.end;
-                self.replace("other variable", expr, &if alone { path } else { format!("({path})") }, shown);
+                self.replace("other variable", expr, &path, shown);
             }
         }
     }
@@ -118,7 +117,7 @@ impl Maker<'_> {
 
     /// A list that is empty gets an element, where it is not the end of one.
     fn empty(&mut self, expr: &Expr, shown: &Shown) {
-        let Some(ty) = self.ty(expr).filter(|_| !shown.tail && self.uses("_∷_")) else {
+        let Some(ty) = self.ty(expr).filter(|_| !shown.tail && self.uses("◌∷◌")) else {
             return;
         };
         let element = match plain_type(&ty).as_str() {

@@ -18,11 +18,11 @@ impl Maker<'_> {
         let same: Vec<&String> = fields.iter().filter(|(_, ty)| Some(ty) == own).map(|(name, _)| name).collect();
         // A field that is kept is also reset and swapped with each other one.
         for other in neighbours(&same, field, if shown.kept { 1 } else { 2 }) {
-            self.add("other field", (inner.end, expr.end), &format!(" .{other}"), shown);
+            self.add("other field", (inner.end, expr.end), &format!(".{other}"), shown);
         }
         self.other_part(expr, inner, field, shown);
         self.whole_for_part(expr, shown);
-        if let Node::Call(_, arguments) = &inner.node {
+        if let Node::Call(_, arguments) = &inner.bare().node {
             self.dropped(expr, arguments, shown);
         }
     }
@@ -39,7 +39,7 @@ impl Maker<'_> {
         for (other, ty) in rules.records.get(ty.name()).into_iter().flatten() {
             let found = self.typing.field(ty, field);
             if other != part && found == Some(own.clone()) && !own.is_number() {
-                self.add("other field", (whole.end, expr.end), &format!(" .{other} .{field}"), shown);
+                self.add("other field", (whole.end, expr.end), &format!(".{other}.{field}"), shown);
             }
         }
     }
@@ -69,7 +69,7 @@ impl Maker<'_> {
         for (name, value) in fields {
             let shown = Shown { label: format!("{name} = "), ..Shown::of(value) };
             if let Some(old) = &old {
-                self.replace("field kept", value, &format!("{old} .{name}"), &shown);
+                self.replace("field kept", value, &format!("{old}.{name}"), &shown);
             }
             if let Some(reset) = self.reset(ty.name(), name, value) {
                 self.replace("field reset", value, &reset, &shown);
@@ -102,7 +102,7 @@ impl Maker<'_> {
             let mut deeper = Vec::new();
             for (path, ty) in &paths {
                 let fields = self.rules.records.get(ty.name()).into_iter().flatten();
-                deeper.extend(fields.map(|(name, ty)| (format!("{path} .{name}"), ty.clone())));
+                deeper.extend(fields.map(|(name, ty)| (format!("{path}.{name}"), ty.clone())));
             }
             paths = deeper;
         }
@@ -114,14 +114,14 @@ impl Maker<'_> {
         let text = self.text(value);
         let parts = self.rules.records.get("Record")?;
         if ty == "Record" {
-            let reset = format!("fresh .{field}");
+            let reset = format!("fresh.{field}");
             return (self.uses("fresh") && text != reset).then_some(reset);
         }
         let Some((part, _)) = parts.iter().find(|(_, part)| part.name() == ty) else {
             let number = self.ty(value).is_some_and(|ty| ty.is_number());
             return (number && text != "0").then(|| "0".to_string());
         };
-        let path = format!("fresh .{part} .{field}");
+        let path = format!("fresh.{part}.{field}");
         let reset = self.rules.fresh(part, field);
         if text == path || Some(&text) == reset.as_ref() {
             return None;
