@@ -4,15 +4,15 @@ use native.Mathlib.Nat.{le_refl}
 use mathlib.Core.Path.{◌≡◌, refl, sym, ap, ◌∙◌}
 use mathlib.Core.List.{List, []}
 use lib.ListN.{length}
+use Rattle.std.specs.Prelude.{Ok, Err}
 use Rattle.rules.specs.declared.Record.{Record}
 use Rattle.rules.specs.Calls.{Call, State, Outcome, lent, Values, nothing, time, destination, picture, state, sides, feeding, mode, stored}
 use Rattle.rules.specs.Machine.{step, effect, scan_effect, feeder_effect, report_effect}
 use Rattle.rules.proofs.Answers.{by-step}
 use Rattle.answers.specs.declared.Request.{Request}
-use Rattle.answers.specs.declared.Answer.{Answer}
-use Rattle.answers.specs.declared.After.{After}
+use Rattle.answers.specs.declared.Told.{Told}
 use Rattle.answers.specs.Asked.{asked, replied}
-use Rattle.answers.specs.Told.{values_told, gave}
+use Rattle.answers.specs.Told.{Answer, After, values_told, gave}
 
 -- values that are no picture
 abbrev pub Plain : Values → Type 0
@@ -75,16 +75,16 @@ plain_step : (s : State) (c : Call) → ((s : State) → Plain (effect c s).valu
 plain_step s c p = by-step (λ (o : Outcome). Plain o.values) s c (λ _. tt) (λ _ _ _ _. tt) (λ _. p s)
 
 plain-told : (r : Record) (x y : List ℕ) (a : Answer) → Plain (values_told r x a) → values_told r x a ≡ values_told r y a
-plain-told r x y Answer.Done p = refl
-plain-told r x y (Answer.Time t) p = refl
-plain-told r x y (Answer.Destination i) p = refl
-plain-told r x y (Answer.Picture k l) p = absurd p
-plain-told r x y (Answer.State s f) p = refl
-plain-told r x y (Answer.Sides n c l) p = refl
-plain-told r x y (Answer.Feeding f t w) p = refl
-plain-told r x y (Answer.Mode m) p = refl
-plain-told r x y (Answer.Stored k) p = refl
-plain-told r x y (Answer.Refused why) p = refl
+plain-told r x y (Ok Told.Done) p = refl
+plain-told r x y (Ok (Told.Time t)) p = refl
+plain-told r x y (Ok (Told.Destination i)) p = refl
+plain-told r x y (Ok (Told.Picture k l)) p = absurd p
+plain-told r x y (Ok (Told.State s f)) p = refl
+plain-told r x y (Ok (Told.Sides n c l)) p = refl
+plain-told r x y (Ok (Told.Feeding f t w)) p = refl
+plain-told r x y (Ok (Told.Mode m)) p = refl
+plain-told r x y (Ok (Told.Stored k)) p = refl
+plain-told r x y (Err why) p = refl
 
 -- so what is told may be read beside the whole reply, whatever the request
 beside : {q : Request} {given : List ℕ} (s : State) (reply after : List ℕ) (a : After) → Lending given q

@@ -5,14 +5,14 @@ use mathlib.Core.Bool.{cond}
 use mathlib.Core.List.{List, []}
 use native.Mathlib.Omega.{arith}
 use lib.Dec.{eqb}
+use Rattle.std.specs.Prelude.{Ok, Err}
 use Rattle.rules.specs.declared.Record.{Record}
 use Rattle.rules.specs.Record.{fresh}
 use Rattle.rules.specs.Calls.{Call, State, Values, nothing, time, destination, picture, state, sides, feeding, mode, stored, Outcome}
 use Rattle.rules.specs.Machine.{step}
 use Rattle.answers.specs.declared.Why.{Why}
-use Rattle.answers.specs.declared.Answer.{Answer}
-use Rattle.answers.specs.declared.After.{After}
-use Rattle.answers.specs.Told.{number_told, values_told, gave}
+use Rattle.answers.specs.declared.Told.{Told}
+use Rattle.answers.specs.Told.{Answer, After, number_told, values_told, gave}
 
 -- refusal is read from the number, acceptance from the values
 abbrev refused_by : ℕ → Why
@@ -26,48 +26,48 @@ refused_by n =
     (cond (eqb n 713) Why.NoSheet Why.NoRoom))))))
 
 abbrev accepted_with : Values → Answer
-accepted_with nothing = Answer.Done
-accepted_with (time t) = Answer.Time t
-accepted_with (destination n i) = Answer.Destination i
-accepted_with (picture k l bs) = Answer.Picture k l
-accepted_with (state s f) = Answer.State s f
-accepted_with (sides n c l) = Answer.Sides n c l
-accepted_with (feeding f t x) = Answer.Feeding f t x
-accepted_with (mode m) = Answer.Mode m
-accepted_with (stored k) = Answer.Stored k
+accepted_with nothing = Ok Told.Done
+accepted_with (time t) = Ok (Told.Time t)
+accepted_with (destination n i) = Ok (Told.Destination i)
+accepted_with (picture k l bs) = Ok (Told.Picture k l)
+accepted_with (state s f) = Ok (Told.State s f)
+accepted_with (sides n c l) = Ok (Told.Sides n c l)
+accepted_with (feeding f t x) = Ok (Told.Feeding f t x)
+accepted_with (mode m) = Ok (Told.Mode m)
+accepted_with (stored k) = Ok (Told.Stored k)
 
 abbrev back : ℕ → Values → Answer
-back n v = cond (eqb n 0) (accepted_with v) (Answer.Refused (refused_by n))
+back n v = cond (eqb n 0) (accepted_with v) (Err (refused_by n))
 
 read_back : (r : Record) (reply : List ℕ) (a : Answer) → back (number_told a) (values_told r reply a) ≡ a
-read_back r reply Answer.Done = refl
-read_back r reply (Answer.Time t) = refl
-read_back r reply (Answer.Destination i) = refl
-read_back r reply (Answer.Picture k l) = refl
-read_back r reply (Answer.State s f) = refl
-read_back r reply (Answer.Sides n c l) = refl
-read_back r reply (Answer.Feeding f t x) = refl
-read_back r reply (Answer.Mode m) = refl
-read_back r reply (Answer.Stored k) = refl
-read_back r reply (Answer.Refused Why.Unsound) = refl
-read_back r reply (Answer.Refused Why.Unlisted) = refl
-read_back r reply (Answer.Refused Why.OtherJob) = refl
-read_back r reply (Answer.Refused Why.OtherName) = refl
-read_back r reply (Answer.Refused Why.WrongState) = refl
-read_back r reply (Answer.Refused Why.FeederErred) = refl
-read_back r reply (Answer.Refused Why.NoSheet) = refl
-read_back r reply (Answer.Refused Why.NoRoom) = refl
+read_back r reply (Ok Told.Done) = refl
+read_back r reply (Ok (Told.Time t)) = refl
+read_back r reply (Ok (Told.Destination i)) = refl
+read_back r reply (Ok (Told.Picture k l)) = refl
+read_back r reply (Ok (Told.State s f)) = refl
+read_back r reply (Ok (Told.Sides n c l)) = refl
+read_back r reply (Ok (Told.Feeding f t x)) = refl
+read_back r reply (Ok (Told.Mode m)) = refl
+read_back r reply (Ok (Told.Stored k)) = refl
+read_back r reply (Err Why.Unsound) = refl
+read_back r reply (Err Why.Unlisted) = refl
+read_back r reply (Err Why.OtherJob) = refl
+read_back r reply (Err Why.OtherName) = refl
+read_back r reply (Err Why.WrongState) = refl
+read_back r reply (Err Why.FeederErred) = refl
+read_back r reply (Err Why.NoSheet) = refl
+read_back r reply (Err Why.NoRoom) = refl
 
 -- the number of a refusal settles its reason, and is not 0
-pub why-settled : (v w : Why) → number_told (Answer.Refused v) ≡ number_told (Answer.Refused w) → v ≡ w
+pub why-settled : (v w : Why) → number_told (Err v) ≡ number_told (Err w) → v ≡ w
 why-settled v w e =
-    let x : Answer.Refused v ≡ Answer.Refused w =
-    sym (read_back fresh [] (Answer.Refused v)) ∙ ap (λ (n : ℕ). back n nothing) e ∙ read_back fresh [] (Answer.Refused w) in
+    let x : Err v ≡ Err w =
+    sym (read_back fresh [] (Err v)) ∙ ap (λ (n : ℕ). back n nothing) e ∙ read_back fresh [] (Err w) in
     cc
 
-pub refusal-counts : (w : Why) → number_told (Answer.Refused w) ≡ 0 → ⊥
+pub refusal-counts : (w : Why) → number_told (Err w) ≡ 0 → ⊥
 refusal-counts w e =
-    let x : Answer.Refused w ≡ Answer.Done = sym (read_back fresh [] (Answer.Refused w)) ∙ ap (λ (n : ℕ). back n nothing) e in
+    let x : Err w ≡ Ok Told.Done = sym (read_back fresh [] (Err w)) ∙ ap (λ (n : ℕ). back n nothing) e in
     let z : ◌≡◌ {A = ℕ} 0 1 = cc in
     omega arith
 

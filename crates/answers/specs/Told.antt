@@ -1,5 +1,5 @@
 -- What each case of an answer tells: the paper's number and values.
-use Rattle.std.specs.Prelude.{ℕ, List, take, drop}
+use Rattle.std.specs.Prelude.{ℕ, List, Result, Ok, Err, take, drop}
 use Rattle.rules.specs.declared.Record.{Record}
 use Rattle.rules.specs.Calls.{Reason, n604, n601, n712, n404, n501, n711, n713, n603, number_of, State, Values, nothing, time, destination, picture, state}
 use Rattle.rules.specs.Calls.{sides, feeding, mode, stored, Outcome}
@@ -7,8 +7,7 @@ use Rattle.rules.specs.Name.{name}
 use Rattle.rules.specs.Moves.{headed}
 use Rattle.answers.specs.declared.Why.{Why}
 use Rattle.answers.specs.declared.Why.TheVariants.{Unsound, Unlisted, OtherJob, OtherName, WrongState, FeederErred, NoSheet, NoRoom}
-use Rattle.answers.specs.declared.Answer.{Answer}
-use Rattle.answers.specs.declared.After.{After}
+use Rattle.answers.specs.declared.Told.{Told}
 
 -- each reason's row of the table
 abbrev pub reason_of : Why → Reason
@@ -21,32 +20,36 @@ reason_of FeederErred = n711
 reason_of NoSheet = n713
 reason_of NoRoom = n603
 
+-- accepted, with what is reported; or refused, and why
+abbrev pub Answer : Type 0
+Answer = Result Told Why
+
+-- the record that a call leaves, and its answer
+pub record After : Type 0 where
+  pub next : Record
+  pub answer : Answer
+
 -- 0 is acceptance
 abbrev pub number_told : Answer → ℕ
-number_told Answer.Done = 0
-number_told (Answer.Time seconds) = 0
-number_told (Answer.Destination id) = 0
-number_told (Answer.Picture k last) = 0
-number_told (Answer.State s why) = 0
-number_told (Answer.Sides number count long) = 0
-number_told (Answer.Feeding f tray why) = 0
-number_told (Answer.Mode m) = 0
-number_told (Answer.Stored k) = 0
-number_told (Answer.Refused why) = number_of (reason_of why)
+number_told (Ok told) = 0
+number_told (Err why) = number_of (reason_of why)
 
 -- the name is that of the record left; a picture's k bytes stand straight after the reply's head; a refusal reports no count,
 -- name or granted time
+abbrev pub values_of : Record → List ℕ → Told → Values
+values_of r reply Told.Done = nothing
+values_of r reply (Told.Time seconds) = time seconds
+values_of r reply (Told.Destination id) = destination (name r) id
+values_of r reply (Told.Picture k last) = picture k last (take k (drop headed reply))
+values_of r reply (Told.State s why) = state s why
+values_of r reply (Told.Sides number count long) = sides number count long
+values_of r reply (Told.Feeding f tray why) = feeding f tray why
+values_of r reply (Told.Mode m) = mode m
+values_of r reply (Told.Stored k) = stored k
+
 abbrev pub values_told : Record → List ℕ → Answer → Values
-values_told r reply Answer.Done = nothing
-values_told r reply (Answer.Time seconds) = time seconds
-values_told r reply (Answer.Destination id) = destination (name r) id
-values_told r reply (Answer.Picture k last) = picture k last (take k (drop headed reply))
-values_told r reply (Answer.State s why) = state s why
-values_told r reply (Answer.Sides number count long) = sides number count long
-values_told r reply (Answer.Feeding f tray why) = feeding f tray why
-values_told r reply (Answer.Mode m) = mode m
-values_told r reply (Answer.Stored k) = stored k
-values_told r reply (Answer.Refused why) = nothing
+values_told r reply (Ok told) = values_of r reply told
+values_told r reply (Err why) = nothing
 
 abbrev pub state_of : Record → List ℕ → State
 state_of r ring = record { box = r; bytes = ring }

@@ -6,7 +6,7 @@ ghost use Rattle.std.specs.Prelude.{◌≡◌};
 ghost use Rattle.rules.specs.Calls.{number_of};
 ghost use Rattle.answers.specs.Told.{reason_of, number_told};
 
-use rules::{Failure, Fed, Feed, Record, Scan};
+use rules::{Failure, Feed, Scan};
 
 // The calls and reports. A fetch's name, a report's picture bytes and the reply are lent beside.
 #[derive(Clone, Copy)]
@@ -33,7 +33,7 @@ pub enum Request {
 }
 
 // The reasons, in order of test.
-#[derive(Clone, Copy)]
+#[derive(Clone, Copy, PartialEq, Eq)]
 pub enum Why {
     Unsound,
     Unlisted,
@@ -45,29 +45,29 @@ pub enum Why {
     NoRoom,
 }
 
-impl Why {
-    // The reason number, as the desk prints it.
-    pub fn number(self) -> u16
-        ensures { result ≡ number_of (reason_of self) }
-    {
-        match self {
+// The reason number, as the desk prints it.
+impl From<Why> for u16 {
+    ghost from_gives = { λ why n. n ≡ number_of (reason_of why) };
+
+    fn from(why: Why) -> u16 {
+        match why {
             Why::Unsound => 604,
             Why::Unlisted => 601,
             Why::OtherJob => 712,
             Why::OtherName => 404,
-            Why::WrongState => Fed::WRONG_STATE,
-            Why::FeederErred => Fed::ERRED,
-            Why::NoSheet => Fed::NO_SHEET,
+            Why::WrongState => 501,
+            Why::FeederErred => 711,
+            Why::NoSheet => 713,
             Why::NoRoom => 603,
         }
     }
 }
 
-// Accepted: nothing to report; the granted time; DestinationID, the name being the next record's; k and whether it is the last,
+// What an acceptance reports: nothing; the granted time; DestinationID, the name being the next record's; k and whether it is the last,
 // the bytes standing in the reply; scan state and FailureCode; SideNumber, SideCount, ScanLength; the feeder's state, MorePages,
-// FailureCode; the mode; how many bytes went in. Refused: why.
-#[derive(Clone, Copy)]
-pub enum Answer {
+// FailureCode; the mode; how many bytes went in.
+#[derive(Clone, Copy, PartialEq, Eq)]
+pub enum Told {
     Done,
     Time(u16),
     Destination(u32),
@@ -77,49 +77,17 @@ pub enum Answer {
     Feeding(Feed, u8, Failure),
     Mode(u8),
     Stored(usize),
-    Refused(Why),
 }
 
-impl Answer {
-    // 0 is acceptance, else the reason's.
-    pub fn number(self) -> u16
-        ensures { result ≡ number_told self }
-    {
-        match self {
-            Answer::Done => 0,
-            Answer::Time(_) => 0,
-            Answer::Destination(_) => 0,
-            Answer::Picture(_, _) => 0,
-            Answer::State(_, _) => 0,
-            Answer::Sides(_, _, _) => 0,
-            Answer::Feeding(_, _, _) => 0,
-            Answer::Mode(_) => 0,
-            Answer::Stored(_) => 0,
-            Answer::Refused(why) => why.number(),
-        }
-    }
-}
+// Accepted, with what is reported; or refused, and why.
+pub type Answer = Result<Told, Why>;
 
-// The record that a call leaves, and its answer.
-#[derive(Clone, Copy)]
-pub struct After {
-    pub next: Record,
-    pub answer: Answer,
-}
-
-impl After {
-    pub fn told(answer: Answer, next: Record) -> After
-        ensures { result ≡ record { next = next; answer = answer } }
-    {
-        After { next, answer }
-    }
-
-    pub fn refused(why: Why, next: Record) -> After
-        ensures { result ≡ record { next = next; answer = Answer.Refused why } }
-    {
-        After {
-            next,
-            answer: Answer::Refused(why),
-        }
+// 0 is acceptance, else the reason's: as the desk prints it, and C gets it.
+pub fn number(answer: Answer) -> u16
+    ensures { result ≡ number_told answer }
+{
+    match answer {
+        Ok(_) => 0,
+        Err(why) => why.into(),
     }
 }

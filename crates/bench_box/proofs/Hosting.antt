@@ -8,8 +8,7 @@ use Rattle.rules.specs.declared.Record.{Record}
 use Rattle.rules.specs.Record.{sound}
 use Rattle.rules.specs.Calls.{Outcome, report, Tick}
 use Rattle.rules.proofs.Theorems.{step-sound}
-use Rattle.answers.specs.declared.Answer.{Answer}
-use Rattle.answers.specs.Told.{state_of, number_told}
+use Rattle.answers.specs.Told.{Answer, state_of, number_told}
 use Rattle.stored.specs.Stored.{kept, recorded, is_box}
 use Rattle.stored.proofs.Back.{recorded-kept}
 use Rattle.working.specs.Worked.{Does}

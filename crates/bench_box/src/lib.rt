@@ -3,52 +3,59 @@
 
 ghost use Rattle.std.specs.Prelude.{◌≡◌, true, [], ◌∷◌, length as len};
 ghost use Rattle.rules.specs.Record.{fresh};
+ghost use Rattle.rules.specs.Calls.{number_of};
+ghost use Rattle.answers.specs.Told.{reason_of};
 ghost use Rattle.stored.specs.Stored.{kept, all_fit, is_box};
 ghost use Rattle.desk_stream.specs.Boxed.{serving, performing};
 ghost use Rattle.bench_box.specs.Host.{tick_number, tick_words, answer_to, flag, to_host};
 
-use desk_stream::{Came, UNSOUND};
+use answers::Why;
+use desk_stream::Came;
 use rules::Record;
 use stored::WORDS;
 
-// The answer to a question that is none.
-const NONE: u64 = 18446744073709551615;
+// The answer to a question that is none: `bench_box_ask` gives C a number.
+const NONE: u64 = u64::MAX;
 
-fn flag(b: bool) -> usize
-    ensures { result ≡ flag b }
-{
-    if b {
-        return 1;
-    }
-    0
-}
+// The number where no record reads, none of the paper's and not acceptance: `bench_box_perform` gives C a number.
+const NO_RECORD: u16 = 0xFFFF;
 
+// Three numbers, as the header says them to C.
 fn tell(progress: &mut [usize; 3], came: Came)
     ensures { progress.new ≡ came.read ∷ came.written ∷ flag came.ended ∷ [] }
 {
-    *progress = [came.read, came.written, flag(came.ended)];
+    *progress = [came.read, came.written, usize::from(came.ended)];
+}
+
+// Nothing is read, and nothing written.
+fn refuse(progress: &mut [usize; 3], why: Why) -> u16
+    ensures number { result ≡ number_of (reason_of why) }
+    ensures none { progress.new ≡ 0 ∷ 0 ∷ 0 ∷ [] }
+{
+    *progress = [0; 3];
+    why.into()
 }
 
 // ---- the functions of the header
 #[unsafe(no_mangle)]
 pub extern "C" fn bench_box_fresh(words: &mut [u64; WORDS])
-    ensures words_after { words.new ≡ kept fresh }
-    ensures words_after_2 { all_fit words.new ≡ true }
+    ensures kept { words.new ≡ kept fresh }
+    ensures fit { all_fit words.new ≡ true }
 {
     stored::keep(words, Record::fresh());
 }
 
 #[unsafe(no_mangle)]
 pub extern "C" fn bench_box_tick(words: &mut [u64; WORDS], length: usize) -> u16
-    ensures value { result ≡ tick_number words.old length }
-    ensures words_after { words.new ≡ tick_words words.old length }
-    ensures length_unchanged { is_box words.new length ≡ is_box words.old length }
+    ensures number { result ≡ tick_number words.old length }
+    ensures words { words.new ≡ tick_words words.old length }
+    ensures box_stays { is_box words.new length ≡ is_box words.old length }
 {
     if !stored::is_box(words, length) {
-        return UNSOUND;
+        return Why::Unsound.into();
     }
     let answer = working::tick(words);
-    answer.number()
+    answers::number(answer)
 }
 
 #[unsafe(no_mangle)]
@@ -56,10 +63,8 @@ pub extern "C" fn bench_box_tick(words: &mut [u64; WORDS], length: usize) -> u16
 pub extern "C" fn bench_box_ask(words: &[u64; WORDS], length: usize, question: usize) -> u64
     ensures { result ≡ answer_to words.now length question }
 {
-    if stored::is_box(words, length) {
-        if question < stored::ASKED {
-            return words[question];
-        }
+    if stored::is_box(words, length) && question < stored::ASKED {
+        return words[question];
     }
     NONE
 }
@@ -74,7 +79,7 @@ pub extern "C" fn bench_box_serve(
     lines: &mut [u8],
     progress: &mut [usize; 3],
 ) -> u16
-    ensures progress_after { record {
+    ensures told { record {
       number = result;
       words = words.new;
       ring = ring.new;
@@ -83,11 +88,15 @@ pub extern "C" fn bench_box_serve(
       progress = progress.new;
     }
         ≡ to_host (serving words.old ring.old input.now offset last lines.old) }
-    ensures ring_unchanged { is_box words.new (len ring.new) ≡ is_box words.old (len ring.old) }
+    ensures box_stays { is_box words.new (len ring.new) ≡ is_box words.old (len ring.old) }
 {
-    let came = desk_stream::serve(words, ring, input, offset, last, lines);
-    tell(progress, came);
-    came.number
+    match desk_stream::serve(words, ring, input, offset, last, lines) {
+        Ok(came) => {
+            tell(progress, came);
+            0
+        }
+        Err(why) => refuse(progress, why),
+    }
 }
 
 #[unsafe(no_mangle)]
@@ -101,7 +110,7 @@ pub extern "C" fn bench_box_perform(
     line: &mut [u8],
     progress: &mut [usize; 3],
 ) -> u16
-    ensures progress_after { record {
+    ensures told { record {
       number = result;
       words = words.new;
       ring = ring.new;
@@ -110,9 +119,17 @@ pub extern "C" fn bench_box_perform(
       progress = progress.new;
     }
         ≡ to_host (performing words.old ring.old reply.old input.now offset last line.old) }
-    ensures ring_unchanged { is_box words.new (len ring.new) ≡ is_box words.old (len ring.old) }
+    ensures box_stays { is_box words.new (len ring.new) ≡ is_box words.old (len ring.old) }
 {
-    let one = desk_stream::perform(words, ring, reply, input, offset, last, line);
-    tell(progress, one);
-    one.number
+    match desk_stream::perform(words, ring, reply, input, offset, last, line) {
+        Ok(one) => {
+            tell(progress, one.came);
+            match one.outcome {
+                Some(Ok(())) => 0,
+                Some(Err(why)) => why.into(),
+                None => NO_RECORD,
+            }
+        }
+        Err(why) => refuse(progress, why),
+    }
 }

@@ -6,9 +6,8 @@ use Rattle.rules.specs.declared.Record.{Record}
 use Rattle.rules.specs.Calls.{lent}
 use Rattle.rules.specs.Machine.{step}
 use Rattle.answers.specs.declared.Request.{Request}
-use Rattle.answers.specs.declared.After.{After}
 use Rattle.answers.specs.Asked.{asked, replied}
-use Rattle.answers.specs.Told.{state_of, gave}
+use Rattle.answers.specs.Told.{After, state_of, gave}
 use Rattle.answers.proofs.Settled.{call_settled}
 
 pub perform-settled : (r : Record) (q : Request) (given ring reply : List ℕ) {a b : After} {ring' ring'' reply' reply'' : List ℕ}

@@ -29,7 +29,7 @@ const ROOM: usize = 65536;
 // nothing.
 fn read_behind<R: Read>(input: &mut R, buf: &mut [u8], held: usize) -> io::Result<usize>
     requires { held < length buf.old }
-    ensures count_in_bounds { IfOk result (λ count. held + count ≤ length buf.new) }
+    ensures fits { IfOk result (λ count. held + count ≤ length buf.new) }
     ensures brings { IfOk result (λ count. Brings buf.old held (take count (drop held buf.new)) buf.new) }
     ensures err { OnErr result (Brings buf.old held [] buf.new) }
     ensures err_input { OnErr result (Keeps (R.remaining input.old) (R.remaining input.new)) }
@@ -48,8 +48,8 @@ fn advance<R: Read>(
     out: &mut [u8],
     f: Flow,
 ) -> io::Result<Flow>
-    requires held_in_bounds { f.held ≤ length buf.old }
-    requires held_in_bounds_2 { f.wants ≡ true → f.held < length buf.old }
+    requires within { f.held ≤ length buf.old }
+    requires room_to_read { f.wants ≡ true → f.held < length buf.old }
     ensures stepped { IfOk result (λ flow. Stepped
         (record {
           flow = f;
@@ -65,8 +65,8 @@ fn advance<R: Read>(
           window = buf.new;
           lines = out.new;
         })) }
-    ensures held_in_bounds_3 { IfOk result (λ flow. flow.held ≤ length buf.new) }
-    ensures written_in_bounds { IfOk result (λ flow. flow.written ≤ length out.new) }
+    ensures still_within { IfOk result (λ flow. flow.held ≤ length buf.new) }
+    ensures lines_hold { IfOk result (λ flow. flow.written ≤ length out.new) }
     ensures err_wants { IsErr result → f.wants ≡ true }
     ensures err_input { OnErr result (Keeps (R.remaining input.old) (R.remaining input.new)) }
     ensures err_window { OnErr result (Brings buf.old f.held [] buf.new) }
@@ -111,19 +111,20 @@ fn pump(
     buf: &mut [u8],
     out: &mut [u8],
 ) -> anyhow::Result<()>
-    requires w_value { w.old ≡ kept fresh }
-    requires ring_value { ring.old ≡ replicate ring_room 0 }
-    requires longest_in_bounds { longest ≤ length buf.old }
-    requires line_room_in_bounds { line_room ≤ length out.old }
+    requires fresh_box { w.old ≡ kept fresh }
+    requires paper_ring { ring.old ≡ replicate ring_room 0 }
+    requires window_roomy { longest ≤ length buf.old }
+    requires lines_roomy { line_room ≤ length out.old }
 {
     let mut f = desk_loop::begin();
-    let mut turns = u64::MAX;
-    while turns > 0 && !f.over {
+    for _ in 0..u64::MAX {
+        if f.over {
+            break;
+        }
         f = advance(input, w, ring, buf, out, f).context("desk: standard input")?;
         if !say(output, out, f.written).context("desk: standard output")? {
-            return Ok(());
+            break;
         }
-        turns -= 1;
     }
     Ok(())
 }

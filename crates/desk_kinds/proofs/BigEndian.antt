@@ -1,50 +1,32 @@
--- Big-endian numbers, once for every width: a number is that of its first bytes, and then that of the rest.
-use Prim.Native.Nat.{ℕ, zero, suc, ◌+◌, ◌*◌, ◌^◌, ◌<◌, ◌≤◌}
-use mathlib.Core.Path.{◌≡◌, refl, sym, ap, ◌∙◌}
+-- Big-endian numbers by their bytes; a byte that is not there counts as 0.
+use Prim.Native.Nat.{ℕ, ◌+◌, ◌*◌, ◌<◌}
+use mathlib.Core.Path.{◌≡◌}
 use mathlib.Core.List.{List}
-use native.Mathlib.Nat.{zero-mul, zero-add, suc-add, add-mul, mul_assoc, add_assoc}
 use native.Mathlib.Omega.{arith}
-use lib.ListN.{length, get_or, drop, get_or-eq_default, drop_of_length-le}
-use lib.Pow.{pow-add}
-use lib.Seq.{get_or-drop, drop-drop}
-use borrow.Author.Tests.{lt-ltb, le-ltb}
-use Rattle.desk_kinds.specs.Numbers.{big_endian, byte_at, word_at, long_at, extended}
-
-pub number-joined : (a b : ℕ) (s : List ℕ) → big_endian a s * 256 ^ b + big_endian b (drop a s) ≡ big_endian (a + b) s
-unfolding big_endian
-number-joined zero b s = rw (zero-mul, zero-add b, zero-add) refl
-number-joined (suc a) b s =
-    let one : 1 + a ≡ suc a = omega arith in
-    let behind : drop a (drop 1 s) ≡ drop (suc a) s = drop-drop a 1 s ∙ ap (λ (n : ℕ). drop n s) one in
-    let rest : big_endian a (drop 1 s) * 256 ^ b + big_endian b (drop (suc a) s) ≡ big_endian (a + b) (drop 1 s) =
-    ap (λ (r : List ℕ). big_endian a (drop 1 s) * 256 ^ b + big_endian b r) (sym behind) ∙ number-joined a b (drop 1 s) in
-    rw (suc-add, pow-add, add-mul, mul_assoc, add_assoc, rest) refl
+use lib.ListN.{length, get_or, drop, get_or-eq_default}
+use lib.Seq.{get_or-drop}
+use Rattle.desk_kinds.specs.Numbers.{big_endian, byte_at, word_at, long_at}
 
 pub byte-there : (s : List ℕ) (i : ℕ) → get_or s i 0 ≡ byte_at s i
 unfolding big_endian
 byte-there s i = let e : i + 0 ≡ i = omega arith in rw (get_or-drop i s 0 0, e) (omega arith)
 
-pub byte-missing : (s : List ℕ) (i : ℕ) → length s ≤ i → 0 ≡ byte_at s i
-byte-missing s i h = sym (get_or-eq_default s 0 h) ∙ byte-there s i
+-- of the bytes `r` from a place on
+module _ (s r : List ℕ) (i x : ℕ) (f : r ≡ drop i s) where
+  pub word-there : x ≡ get_or r 0 0 * 256 + get_or r 1 0 → x ≡ word_at s i
+  unfolding big_endian
+  word-there e = rw (← f) (simp get_or-drop (omega arith))
 
-pub long-missing : (s : List ℕ) (i : ℕ) → length s ≤ i → 0 ≡ long_at s i
-unfolding big_endian
-long-missing s i h = rw (drop_of_length-le s h)
+  pub long-there : x ≡ get_or r 0 0 * 16777216 + get_or r 1 0 * 65536 + get_or r 2 0 * 256 + get_or r 3 0 → x ≡ long_at s i
+  unfolding big_endian
+  long-there e = rw (← f) (simp get_or-drop (omega arith))
 
--- two numbers of one width, one behind the other
-module _ (s : List ℕ) (i r x y : ℕ) where
-  joined : (w : ℕ) → r ≡ x * 256 ^ w + y → x ≡ big_endian w (drop i s) → y ≡ big_endian w (drop (i + w) s) → r ≡ big_endian (w + w) (drop i s)
-  joined w d e f = rw (d, e, f, ← (drop-drop w i s)) (number-joined w w (drop i s))
+  pub word-cut : (a : ℕ) → length r < 2 → a ≡ byte_at r 0 → x ≡ a * 256 + 0 → x ≡ word_at s i
+  word-cut a h p e = word-there (rw (get_or-eq_default r 0 {n = 1} (omega arith), byte-there r 0, ← p) e)
 
-  pub two : r ≡ x * 256 + y → x ≡ byte_at s i → y ≡ byte_at s (i + 1) → r ≡ word_at s i
-  two = joined 1
+  pub long-cut : (a b c : ℕ) → length r < 4 → a ≡ byte_at r 0 → b ≡ byte_at r 1 → c ≡ byte_at r 2
+      → x ≡ a * 16777216 + b * 65536 + c * 256 + 0 → x ≡ long_at s i
+  long-cut a b c h p q t e =
+      long-there (rw (get_or-eq_default r 0 {n = 3} (omega arith), byte-there r 0, byte-there r 1, byte-there r 2, ← p, ← q, ← t) e)
 
-  pub four : r ≡ x * 65536 + y → x ≡ word_at s i → y ≡ word_at s (i + 2) → r ≡ long_at s i
-  four = joined 2
-
--- SideCount's two's complement
-pub not-below : (c : ℕ) → c < 0x8000 → c ≡ extended c
-not-below c h = simp (lt-ltb _ _ h)
-
-pub below : (c : ℕ) → 0x8000 ≤ c → c + 0xFFFF0000 ≡ extended c
-below c h = simp (le-ltb _ _ h)
+pub ruleset numbers = (byte-there, word-there, long-there, word-cut, long-cut)

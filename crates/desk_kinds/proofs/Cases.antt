@@ -1,40 +1,38 @@
 -- The paper's table of kinds, row by row and field by field. A definition that is wrong fails at the line of a case, also where the
 -- code is wrong with it.
-use Rattle.std.specs.Prelude.{ℕ, zero, suc, refl, Bool, true, false, cond, List, [], ◌∷◌, ◌++◌, map}
+use Rattle.std.specs.Prelude.{ℕ, zero, suc, refl, Bool, true, false, cond, Option, Some, None, List, [], ◌∷◌, ◌++◌, map}
 use Rattle.rules.specs.Cases.{Case, that, minus_one, minus_two}
+use Rattle.answers.specs.declared.Request.{Request}
 use Rattle.answers.specs.declared.Request.TheVariants.{StartScan, Start, Stop, Abort, GetDestination, Fetch, GetState, GetSideInformation, Load, Eject}
 use Rattle.answers.specs.declared.Request.TheVariants.{Reset, SetFeederMode, GetFeederState, GetFeederMode, Bytes, SideEnded, Tray, Path, Tick}
 use Rattle.desk_text.specs.Literal.{bytes}
 use Rattle.desk_kinds.specs.declared.Limits.{Limits}
-use Rattle.desk_kinds.specs.declared.Limits.TheVariants.{Listed}
-use Rattle.desk_kinds.specs.declared.Asking.{Asking}
-use Rattle.desk_kinds.specs.declared.Asking.TheVariants.{Asks, Unlisted as AsksNothing}
 use Rattle.desk_kinds.specs.Numbers.{big_endian, byte_at, word_at, long_at, extended}
-use Rattle.desk_kinds.specs.Kinds.{entries, entry_in, limits_of, is_listed, within, asking_of, given_of}
+use Rattle.desk_kinds.specs.Kinds.{entries, entry_in, between, limits_of, is_listed, within, asking_of, given_of}
 
 -- ---- kinds (hex) with payload length
-pub lengths : List (Case Limits)
+pub lengths : List (Case (Option Limits))
 unfolding limits_of entry_in entries
 lengths =
-    that "01 StartScan 6" (limits_of 0x01) (Listed 6 6) refl
-    ∷ that "02 Start 7" (limits_of 0x02) (Listed 7 7) refl
-    ∷ that "03 Stop 4" (limits_of 0x03) (Listed 4 4) refl
-    ∷ that "04 Abort 4" (limits_of 0x04) (Listed 4 4) refl
-    ∷ that "05 GetDestination 4" (limits_of 0x05) (Listed 4 4) refl
-    ∷ that "06 Fetch 1 to 255" (limits_of 0x06) (Listed 1 255) refl
-    ∷ that "07 GetState 0" (limits_of 0x07) (Listed 0 0) refl
-    ∷ that "08 GetSideInformation 0" (limits_of 0x08) (Listed 0 0) refl
-    ∷ that "10 Load 4" (limits_of 0x10) (Listed 4 4) refl
-    ∷ that "11 Eject 5" (limits_of 0x11) (Listed 5 5) refl
-    ∷ that "12 Reset 4" (limits_of 0x12) (Listed 4 4) refl
-    ∷ that "13 SetFeederMode 5" (limits_of 0x13) (Listed 5 5) refl
-    ∷ that "14 feeder GetState 0" (limits_of 0x14) (Listed 0 0) refl
-    ∷ that "15 GetFeederMode 0" (limits_of 0x15) (Listed 0 0) refl
-    ∷ that "20 Bytes 0 to 255" (limits_of 0x20) (Listed 0 255) refl
-    ∷ that "21 Side ended 0" (limits_of 0x21) (Listed 0 0) refl
-    ∷ that "22 Tray 1" (limits_of 0x22) (Listed 1 1) refl
-    ∷ that "23 Path 1" (limits_of 0x23) (Listed 1 1) refl
-    ∷ that "24 Tick 0" (limits_of 0x24) (Listed 0 0) refl
+    that "01 StartScan 6" (limits_of 0x01) (between 6 6) refl
+    ∷ that "02 Start 7" (limits_of 0x02) (between 7 7) refl
+    ∷ that "03 Stop 4" (limits_of 0x03) (between 4 4) refl
+    ∷ that "04 Abort 4" (limits_of 0x04) (between 4 4) refl
+    ∷ that "05 GetDestination 4" (limits_of 0x05) (between 4 4) refl
+    ∷ that "06 Fetch 1 to 255" (limits_of 0x06) (between 1 255) refl
+    ∷ that "07 GetState 0" (limits_of 0x07) (between 0 0) refl
+    ∷ that "08 GetSideInformation 0" (limits_of 0x08) (between 0 0) refl
+    ∷ that "10 Load 4" (limits_of 0x10) (between 4 4) refl
+    ∷ that "11 Eject 5" (limits_of 0x11) (between 5 5) refl
+    ∷ that "12 Reset 4" (limits_of 0x12) (between 4 4) refl
+    ∷ that "13 SetFeederMode 5" (limits_of 0x13) (between 5 5) refl
+    ∷ that "14 feeder GetState 0" (limits_of 0x14) (between 0 0) refl
+    ∷ that "15 GetFeederMode 0" (limits_of 0x15) (between 0 0) refl
+    ∷ that "20 Bytes 0 to 255" (limits_of 0x20) (between 0 255) refl
+    ∷ that "21 Side ended 0" (limits_of 0x21) (between 0 0) refl
+    ∷ that "22 Tray 1" (limits_of 0x22) (between 1 1) refl
+    ∷ that "23 Path 1" (limits_of 0x23) (between 1 1) refl
+    ∷ that "24 Tick 0" (limits_of 0x24) (between 0 0) refl
     ∷ []
 
 -- the kinds below a number that are listed
@@ -78,37 +76,37 @@ taken =
     ∷ []
 
 -- ---- the fields of each payload, whose bytes all differ: a field that is another's, or out of place, has another number
-pub fields : List (Case Asking)
+pub fields : List (Case (Option Request))
 unfolding asking_of entry_in entries big_endian bytes
 fields =
-    that "01 UseFeeder 1, SideCount 2, Append 1, time 2" (asking_of 0x01 (bytes "11 2233 44 5566")) (Asks (StartScan 0x11 0x2233 0x44 0x5566)) refl
-    ∷ that "01 SideCount −1" (asking_of 0x01 (bytes "11 FFFF 44 5566")) (Asks (StartScan 0x11 0xFFFFFFFF 0x44 0x5566)) refl
-    ∷ that "02 job 4, UseFeeder 1, SideCount 2" (asking_of 0x02 (bytes "11223344 55 6677")) (Asks (Start 0x11223344 0x55 0x6677)) refl
-    ∷ that "02 SideCount −1" (asking_of 0x02 (bytes "11223344 55 FFFF")) (Asks (Start 0x11223344 0x55 0xFFFFFFFF)) refl
-    ∷ that "03 job" (asking_of 0x03 (bytes "11223344")) (Asks (Stop 0x11223344)) refl
-    ∷ that "04 job" (asking_of 0x04 (bytes "11223344")) (Asks (Abort 0x11223344)) refl
-    ∷ that "05 job" (asking_of 0x05 (bytes "11223344")) (Asks (GetDestination 0x11223344)) refl
-    ∷ that "06 most, name" (asking_of 0x06 (bytes "11 22334455")) (Asks (Fetch 0x11)) refl
-    ∷ that "07 nothing" (asking_of 0x07 []) (Asks GetState) refl
-    ∷ that "08 nothing" (asking_of 0x08 []) (Asks GetSideInformation) refl
-    ∷ that "10 job" (asking_of 0x10 (bytes "11223344")) (Asks (Load 0x11223344)) refl
-    ∷ that "11 job, value" (asking_of 0x11 (bytes "11223344 55")) (Asks (Eject 0x11223344 0x55)) refl
-    ∷ that "12 job" (asking_of 0x12 (bytes "11223344")) (Asks (Reset 0x11223344)) refl
-    ∷ that "13 job, mode" (asking_of 0x13 (bytes "11223344 55")) (Asks (SetFeederMode 0x11223344 0x55)) refl
-    ∷ that "14 nothing" (asking_of 0x14 []) (Asks GetFeederState) refl
-    ∷ that "15 nothing" (asking_of 0x15 []) (Asks GetFeederMode) refl
-    ∷ that "20 the payload goes with it" (asking_of 0x20 (bytes "112233")) (Asks Bytes) refl
-    ∷ that "21 nothing" (asking_of 0x21 []) (Asks SideEnded) refl
-    ∷ that "22 the sensor" (asking_of 0x22 (bytes "11")) (Asks (Tray 0x11)) refl
-    ∷ that "23 the sensor" (asking_of 0x23 (bytes "11")) (Asks (Path 0x11)) refl
-    ∷ that "24 nothing" (asking_of 0x24 []) (Asks Tick) refl
-    ∷ that "00 is not listed" (asking_of 0x00 (bytes "11223344")) AsksNothing refl
-    ∷ that "09 is not listed" (asking_of 0x09 (bytes "11223344")) AsksNothing refl
-    ∷ that "0F is not listed" (asking_of 0x0F (bytes "11223344")) AsksNothing refl
-    ∷ that "16 is not listed" (asking_of 0x16 (bytes "11223344")) AsksNothing refl
-    ∷ that "1F is not listed" (asking_of 0x1F (bytes "11223344")) AsksNothing refl
-    ∷ that "25 is not listed" (asking_of 0x25 (bytes "11223344")) AsksNothing refl
-    ∷ that "FF is not listed" (asking_of 0xFF (bytes "11223344")) AsksNothing refl
+    that "01 UseFeeder 1, SideCount 2, Append 1, time 2" (asking_of 0x01 (bytes "11 2233 44 5566")) (Some (StartScan 0x11 0x2233 0x44 0x5566)) refl
+    ∷ that "01 SideCount −1" (asking_of 0x01 (bytes "11 FFFF 44 5566")) (Some (StartScan 0x11 0xFFFFFFFF 0x44 0x5566)) refl
+    ∷ that "02 job 4, UseFeeder 1, SideCount 2" (asking_of 0x02 (bytes "11223344 55 6677")) (Some (Start 0x11223344 0x55 0x6677)) refl
+    ∷ that "02 SideCount −1" (asking_of 0x02 (bytes "11223344 55 FFFF")) (Some (Start 0x11223344 0x55 0xFFFFFFFF)) refl
+    ∷ that "03 job" (asking_of 0x03 (bytes "11223344")) (Some (Stop 0x11223344)) refl
+    ∷ that "04 job" (asking_of 0x04 (bytes "11223344")) (Some (Abort 0x11223344)) refl
+    ∷ that "05 job" (asking_of 0x05 (bytes "11223344")) (Some (GetDestination 0x11223344)) refl
+    ∷ that "06 most, name" (asking_of 0x06 (bytes "11 22334455")) (Some (Fetch 0x11)) refl
+    ∷ that "07 nothing" (asking_of 0x07 []) (Some GetState) refl
+    ∷ that "08 nothing" (asking_of 0x08 []) (Some GetSideInformation) refl
+    ∷ that "10 job" (asking_of 0x10 (bytes "11223344")) (Some (Load 0x11223344)) refl
+    ∷ that "11 job, value" (asking_of 0x11 (bytes "11223344 55")) (Some (Eject 0x11223344 0x55)) refl
+    ∷ that "12 job" (asking_of 0x12 (bytes "11223344")) (Some (Reset 0x11223344)) refl
+    ∷ that "13 job, mode" (asking_of 0x13 (bytes "11223344 55")) (Some (SetFeederMode 0x11223344 0x55)) refl
+    ∷ that "14 nothing" (asking_of 0x14 []) (Some GetFeederState) refl
+    ∷ that "15 nothing" (asking_of 0x15 []) (Some GetFeederMode) refl
+    ∷ that "20 the payload goes with it" (asking_of 0x20 (bytes "112233")) (Some Bytes) refl
+    ∷ that "21 nothing" (asking_of 0x21 []) (Some SideEnded) refl
+    ∷ that "22 the sensor" (asking_of 0x22 (bytes "11")) (Some (Tray 0x11)) refl
+    ∷ that "23 the sensor" (asking_of 0x23 (bytes "11")) (Some (Path 0x11)) refl
+    ∷ that "24 nothing" (asking_of 0x24 []) (Some Tick) refl
+    ∷ that "00 is not listed" (asking_of 0x00 (bytes "11223344")) None refl
+    ∷ that "09 is not listed" (asking_of 0x09 (bytes "11223344")) None refl
+    ∷ that "0F is not listed" (asking_of 0x0F (bytes "11223344")) None refl
+    ∷ that "16 is not listed" (asking_of 0x16 (bytes "11223344")) None refl
+    ∷ that "1F is not listed" (asking_of 0x1F (bytes "11223344")) None refl
+    ∷ that "25 is not listed" (asking_of 0x25 (bytes "11223344")) None refl
+    ∷ that "FF is not listed" (asking_of 0xFF (bytes "11223344")) None refl
     ∷ []
 
 -- ---- the bytes that go with a request

@@ -1,4 +1,3 @@
 pub mod Cases
 pub mod BigEndian
 pub mod Entries
-pub mod Payloads

@@ -1,9 +1,7 @@
 -- The table of kinds: the least and the greatest length of each kind's payload, and what its fields ask.
-use Rattle.std.specs.Prelude.{ℕ, Bool, true, false, ◌&&◌, cond, List, [], ◌∷◌, eqb, leb, drop}
-use Rattle.std.proofs.Math.Option.{Option, none, some}
+use Rattle.std.specs.Prelude.{ℕ, Bool, true, false, ◌&&◌, cond, Option, Some, None, List, [], ◌∷◌, eqb, leb, drop}
 use Rattle.answers.specs.declared.Request.{Request}
 use Rattle.desk_kinds.specs.declared.Limits.{Limits}
-use Rattle.desk_kinds.specs.declared.Asking.{Asking}
 use Rattle.desk_kinds.specs.Numbers.{byte_at, word_at, long_at, extended}
 
 pub record Entry : Type 0 where
@@ -44,39 +42,42 @@ entries =
 
 -- the entry of a kind
 unfoldable pub entry_in : ℕ → List Entry → Option Entry
-entry_in k [] = none
-entry_in k (e ∷ es) = cond (eqb e.kind k) (some e) (entry_in k es)
+entry_in k [] = None
+entry_in k (e ∷ es) = cond (eqb e.kind k) (Some e) (entry_in k es)
 
 abbrev pub entry_of : ℕ → Option Entry
 entry_of k = entry_in k entries
 
 -- the payload lengths that it lists
-abbrev pub limits_by : Option Entry → Limits
-limits_by none = Limits.Unlisted
-limits_by (some e) = Limits.Listed e.shortest e.longest
+abbrev pub between : ℕ → ℕ → Option Limits
+between lo hi = Some (record { least = lo; greatest = hi })
 
-unfoldable pub limits_of : ℕ → Limits
+abbrev pub limits_by : Option Entry → Option Limits
+limits_by None = None
+limits_by (Some e) = between e.shortest e.longest
+
+unfoldable pub limits_of : ℕ → Option Limits
 limits_of k = limits_by (entry_of k)
 
 -- what one row says of a kind
-abbrev pub said_of : ℕ → ℕ → ℕ → ℕ → Limits
-said_of j lo hi k = cond (eqb j k) (Limits.Listed lo hi) Limits.Unlisted
+abbrev pub said_of : ℕ → ℕ → ℕ → ℕ → Option Limits
+said_of j lo hi k = cond (eqb j k) (between lo hi) None
 
-abbrev pub is_listed : Limits → Bool
-is_listed Limits.Unlisted = false
-is_listed (Limits.Listed lo hi) = true
+abbrev pub is_listed : Option Limits → Bool
+is_listed None = false
+is_listed (Some l) = true
 
 -- a payload length that is listed
-abbrev pub within : Limits → ℕ → Bool
-within Limits.Unlisted n = false
-within (Limits.Listed lo hi) n = leb lo n && leb n hi
+abbrev pub within : Option Limits → ℕ → Bool
+within None n = false
+within (Some l) n = leb l.least n && leb n l.greatest
 
 -- what a payload asks
-abbrev pub asking_by : List ℕ → Option Entry → Asking
-asking_by p none = Asking.Unlisted
-asking_by p (some e) = Asking.Asks (e.requested p)
+abbrev pub asking_by : List ℕ → Option Entry → Option Request
+asking_by p None = None
+asking_by p (Some e) = Some (e.requested p)
 
-unfoldable pub asking_of : ℕ → List ℕ → Asking
+unfoldable pub asking_of : ℕ → List ℕ → Option Request
 asking_of k p = asking_by p (entry_of k)
 
 -- the bytes that go with it: a fetch's name stands behind its most; a report's picture bytes are the whole payload

@@ -1,4 +1,5 @@
-// The kinds, in the order of the table.
+// The kinds, in the order of the table. They stay numbers, as an enum is no plainer: it adds a third match of nineteen arms, from a
+// record's byte, to those of `limits` and `request`.
 pub(crate) const START_SCAN: u8 = 0x01;
 
 pub(crate) const START: u8 = 0x02;

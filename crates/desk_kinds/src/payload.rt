@@ -3,23 +3,15 @@ ghost use Rattle.std.specs.Prelude.{◌≡◌};
 ghost use Rattle.desk_kinds.specs.Numbers.{word_at, extended};
 ghost use Rattle.desk_kinds.specs.Kinds.{asking_of, given_of};
 
-use crate::Asking;
 use crate::kinds::*;
 use crate::numbers::{byte_at, long_at, word_at};
 use answers::Request;
-
-// From here on SideCount's 16 bits are a number below 0.
-const SIGN: u32 = 0x8000;
-
-// The bits that a number below 0 has above them.
-const ABOVE: u32 = 0xFFFF0000;
 
 // SideCount's 16 bits as the 32 that the record keeps.
 fn extend(c: u16) -> u32
     ensures { result ≡ extended c }
 {
-    let bits = c as u32;
-    if bits < SIGN { bits } else { bits + ABOVE }
+    i32::from(c.cast_signed()).cast_unsigned()
 }
 
 fn count_at(s: &[u8], i: usize) -> u32
@@ -30,39 +22,35 @@ fn count_at(s: &[u8], i: usize) -> u32
 
 // What a record of that kind and payload asks.
 #[tactic(auto, unfolding(crate::specs::Kinds::entries, crate::specs::Kinds::entry_in, crate::specs::Kinds::asking_of))]
-pub fn request(kind: u8, body: &[u8]) -> Asking
+pub fn request(kind: u8, body: &[u8]) -> Option<Request>
     ensures { result ≡ asking_of kind body.now }
 {
     match kind {
-        START_SCAN => Asking::Asks(Request::StartScan(
+        START_SCAN => Some(Request::StartScan(
             byte_at(body, 0),
             count_at(body, 1),
             byte_at(body, 3),
-            word_at(body, 4) as u32,
+            u32::from(word_at(body, 4)),
         )),
-        START => Asking::Asks(Request::Start(
-            long_at(body, 0),
-            byte_at(body, 4),
-            count_at(body, 5),
-        )),
-        STOP => Asking::Asks(Request::Stop(long_at(body, 0))),
-        ABORT => Asking::Asks(Request::Abort(long_at(body, 0))),
-        GET_DESTINATION => Asking::Asks(Request::GetDestination(long_at(body, 0))),
-        FETCH => Asking::Asks(Request::Fetch(byte_at(body, 0))),
-        GET_STATE => Asking::Asks(Request::GetState),
-        GET_SIDE_INFORMATION => Asking::Asks(Request::GetSideInformation),
-        LOAD => Asking::Asks(Request::Load(long_at(body, 0))),
-        EJECT => Asking::Asks(Request::Eject(long_at(body, 0), byte_at(body, 4))),
-        RESET => Asking::Asks(Request::Reset(long_at(body, 0))),
-        SET_FEEDER_MODE => Asking::Asks(Request::SetFeederMode(long_at(body, 0), byte_at(body, 4))),
-        GET_FEEDER_STATE => Asking::Asks(Request::GetFeederState),
-        GET_FEEDER_MODE => Asking::Asks(Request::GetFeederMode),
-        BYTES => Asking::Asks(Request::Bytes),
-        SIDE_ENDED => Asking::Asks(Request::SideEnded),
-        TRAY => Asking::Asks(Request::Tray(byte_at(body, 0))),
-        PATH => Asking::Asks(Request::Path(byte_at(body, 0))),
-        TICK => Asking::Asks(Request::Tick),
-        _ => Asking::Unlisted,
+        START => Some(Request::Start(long_at(body, 0), byte_at(body, 4), count_at(body, 5))),
+        STOP => Some(Request::Stop(long_at(body, 0))),
+        ABORT => Some(Request::Abort(long_at(body, 0))),
+        GET_DESTINATION => Some(Request::GetDestination(long_at(body, 0))),
+        FETCH => Some(Request::Fetch(byte_at(body, 0))),
+        GET_STATE => Some(Request::GetState),
+        GET_SIDE_INFORMATION => Some(Request::GetSideInformation),
+        LOAD => Some(Request::Load(long_at(body, 0))),
+        EJECT => Some(Request::Eject(long_at(body, 0), byte_at(body, 4))),
+        RESET => Some(Request::Reset(long_at(body, 0))),
+        SET_FEEDER_MODE => Some(Request::SetFeederMode(long_at(body, 0), byte_at(body, 4))),
+        GET_FEEDER_STATE => Some(Request::GetFeederState),
+        GET_FEEDER_MODE => Some(Request::GetFeederMode),
+        BYTES => Some(Request::Bytes),
+        SIDE_ENDED => Some(Request::SideEnded),
+        TRAY => Some(Request::Tray(byte_at(body, 0))),
+        PATH => Some(Request::Path(byte_at(body, 0))),
+        TICK => Some(Request::Tick),
+        _ => None,
     }
 }
 
@@ -70,11 +58,9 @@ pub fn request(kind: u8, body: &[u8]) -> Asking
 pub fn given(kind: u8, body: &[u8]) -> &[u8]
     ensures { result.now ≡ given_of kind body.now }
 {
-    if kind != FETCH {
-        return body;
+    if kind == FETCH {
+        body.get(1..).unwrap_or(body)
+    } else {
+        body
     }
-    if body.len() < 1 {
-        return body;
-    }
-    &body[1..]
 }

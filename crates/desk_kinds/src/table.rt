@@ -5,7 +5,8 @@ ghost use Rattle.desk_kinds.specs.Kinds.{said_of, limits_of, within};
 use crate::Limits;
 use crate::kinds::*;
 
-// A kind, with the least and the greatest length of its payload.
+// A kind, with the least and the greatest length of its payload. No names: a row of named fields would take five lines, and the table
+// be read no more as one.
 #[derive(Clone, Copy)]
 struct Row(u8, u8, u8);
 
@@ -32,18 +33,19 @@ const KINDS: [Row; 19] = [
 ];
 
 // What a row says of a kind.
-fn said(row: Row, kind: u8) -> Limits
+fn said(row: Row, kind: u8) -> Option<Limits>
     ensures { result ≡ said_of row.0 row.1 row.2 kind }
 {
-    if row.0 == kind {
-        return Limits::Listed(row.1 as usize, row.2 as usize);
-    }
-    Limits::Unlisted
+    let Row(listed, least, greatest) = row;
+    (listed == kind).then_some(Limits {
+        least: usize::from(least),
+        greatest: usize::from(greatest),
+    })
 }
 
 // Each arm is one row, so that the compiler knows it: nothing is laid out or sought as the program runs.
 #[tactic(auto, unfolding(crate::specs::Kinds::entries, crate::specs::Kinds::entry_in, crate::specs::Kinds::limits_of))]
-pub fn limits(kind: u8) -> Limits
+pub fn limits(kind: u8) -> Option<Limits>
     ensures { result ≡ limits_of kind }
 {
     let rows = KINDS;
@@ -67,16 +69,13 @@ pub fn limits(kind: u8) -> Limits
         TRAY => said(rows[16], kind),
         PATH => said(rows[17], kind),
         TICK => said(rows[18], kind),
-        _ => Limits::Unlisted,
+        _ => None,
     }
 }
 
 // Whether a payload length is listed.
-pub fn admits(found: Limits, n: usize) -> bool
+pub fn admits(found: Option<Limits>, n: usize) -> bool
     ensures { result ≡ within found n }
 {
-    match found {
-        Limits::Unlisted => false,
-        Limits::Listed(least, greatest) => (least <= n) & (n <= greatest),
-    }
+    found.is_some_and(|limits| (limits.least <= n) & (n <= limits.greatest))
 }

@@ -1,5 +1,5 @@
 pub mod Cases
-pub mod Setting
 pub mod Lines
 pub mod Bound
+pub mod Count
 pub mod Room

@@ -1,10 +1,9 @@
 -- The line's parts in a row are the line.
-use Prim.Native.Nat.{ℕ, ◌-◌, ◌<◌, ◌≤◌}
-use mathlib.Core.Path.{◌≡◌, sym, ap}
+use Prim.Native.Nat.{ℕ, ◌≤◌}
+use mathlib.Core.Path.{◌≡◌, ap}
 use mathlib.Core.List.{List, [], ◌∷◌, ◌++◌, append_assoc}
 use native.Mathlib.Omega.{arith}
-use lib.ListN.{length, take, drop, length-take, length-drop, drop_of_length-le}
-use lib.Seq.{take-nil, take_all}
+use lib.ListN.{length, take, drop, length-take}
 use Rattle.rules.specs.declared.Record.{Record}
 use Rattle.rules.specs.Moves.{headed}
 use Rattle.rules.specs.Calls.{Values}
@@ -13,15 +12,9 @@ use Rattle.desk_text.proofs.Putting.{then, moved}
 use Rattle.desk_text.specs.Digits.{decimal, hex_byte}
 use Rattle.desk_line.specs.Line.{scan_letter, feed_letter, count_text, extra_of, line_of}
 
--- ---- a reply with no room for its head has no picture; the rest of a list is all that is behind
-pub no-picture : (reply : List ℕ) (k : ℕ) → length reply < headed → [] ≡ take k (drop headed reply)
-no-picture reply k h = rw (drop_of_length-le reply {i = headed} (omega arith)) (sym (take-nil k))
-
+-- ---- a picture has no more bytes than were asked for
 pub picture-short : (b reply : List ℕ) (k : ℕ) → b ≡ take k (drop headed reply) → length b ≤ k
 picture-short b reply k e = omega (arith, ap length e, length-take k (drop headed reply))
-
-pub rest : (s : List ℕ) (n k : ℕ) → take k (take (length s - n) (drop n s)) ≡ take k (drop n s)
-rest s n k = ap (take k) (take_all (length s - n) (drop n s) (rw length-drop (omega arith)))
 
 -- ---- the parts in a row
 row : (kind number job side count extra : List ℕ) (s f : ℕ)

@@ -14,13 +14,6 @@ use Rattle.desk_line.specs.Line.{line_room, roomed}
 pub no_line : (filled room : ℕ) → room < line_room → false ≡ leb (filled + line_room) room
 no_line filled room h = sym (lt-leb (filled + line_room) room (omega arith))
 
-pub line-fits : (filled room : ℕ) → line_room ≤ room → leb filled (room - line_room) ≡ leb (filled + line_room) room
-line-fits filled room h = same (leb filled (room - line_room)) refl
-  where
-    same : (b : Bool) → leb filled (room - line_room) ≡ b → b ≡ leb (filled + line_room) room
-    same true e = sym (le-leb (filled + line_room) room (omega (arith, leb-true filled (room - line_room) e)))
-    same false e = sym (lt-leb (filled + line_room) room (omega (arith, leb-false filled (room - line_room) e)))
-
 -- the test holds, or it fails
 pub has_room : (b : Bool) (at room : ℕ) → b ≡ leb (at + line_room) room → not b ≡ false → at + line_room ≤ room
 has_room b at room e f = leb-true (at + line_room) room (sym e ∙ not-false b f)

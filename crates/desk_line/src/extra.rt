@@ -7,13 +7,14 @@ ghost use Rattle.desk_line.specs.Line.{failure_text, extra_of};
 ghost use Rattle.desk_line.specs.Room.{failure_room, extra_room};
 
 use crate::{lent, text};
-use answers::Answer;
+use answers::{Answer, Told};
 use rules::{Failure, Record};
 
+// Each word is put where it is matched, with its length known there.
 fn put_failure(out: &mut [u8], at: usize, f: Failure) -> usize
     requires { at + failure_room ≤ length out.old }
     ensures puts { Puts out.old at (failure_text f) result out.new }
-    ensures upper_bound { result ≤ at + failure_room }
+    ensures inside { result ≤ at + failure_room }
 {
     match f {
         Failure::None => text::set_bytes(out, at, b"none"),
@@ -26,9 +27,9 @@ fn put_failure(out: &mut [u8], at: usize, f: Failure) -> usize
 fn put_tray(out: &mut [u8], at: usize, tray: u8, f: Failure) -> usize
     requires { at + extra_room ≤ length out.old }
     ensures puts { Puts out.old at (decimal tray ++ 58 ∷ failure_text f) result out.new }
-    ensures upper_bound { result ≤ at + extra_room }
+    ensures inside { result ≤ at + extra_room }
 {
-    let colon = text::set_decimal(out, at, tray as u64);
+    let colon = text::set_decimal(out, at, u64::from(tray));
     let next = text::set_byte(out, colon, b':');
     put_failure(out, next, f)
 }
@@ -37,18 +38,17 @@ fn put_tray(out: &mut [u8], at: usize, tray: u8, f: Failure) -> usize
 pub(crate) fn put_extra(out: &mut [u8], at: usize, r: Record, answer: Answer, reply: &[u8]) -> usize
     requires { at + extra_room ≤ length out.old }
     ensures puts { Puts out.old at (extra_of (values_told r reply.now answer)) result out.new }
-    ensures upper_bound { result ≤ at + extra_room }
+    ensures inside { result ≤ at + extra_room }
 {
     match answer {
-        Answer::Done => text::set_byte(out, at, b'-'),
-        Answer::Time(seconds) => text::set_decimal(out, at, seconds as u64),
-        Answer::Destination(id) => lent::put_destination(out, at, r, id),
-        Answer::Picture(k, last) => lent::put_picture(out, at, k, last, reply),
-        Answer::State(_, f) => put_failure(out, at, f),
-        Answer::Sides(_, _, _) => text::set_byte(out, at, b'-'),
-        Answer::Feeding(_, tray, f) => put_tray(out, at, tray, f),
-        Answer::Mode(_) => text::set_bytes(out, at, b"Simplex"),
-        Answer::Stored(k) => text::set_decimal(out, at, k as u64),
-        Answer::Refused(_) => text::set_byte(out, at, b'-'),
+        Ok(Told::Done | Told::Sides(..)) => text::set_byte(out, at, b'-'),
+        Ok(Told::Time(seconds)) => text::set_decimal(out, at, u64::from(seconds)),
+        Ok(Told::Destination(id)) => lent::put_destination(out, at, r, id),
+        Ok(Told::Picture(k, last)) => lent::put_picture(out, at, k, last, reply),
+        Ok(Told::State(_, f)) => put_failure(out, at, f),
+        Ok(Told::Feeding(_, tray, f)) => put_tray(out, at, tray, f),
+        Ok(Told::Mode(_)) => text::set_bytes(out, at, b"Simplex"),
+        Ok(Told::Stored(k)) => text::set_decimal(out, at, k as u64),
+        Err(_) => text::set_byte(out, at, b'-'),
     }
 }

@@ -1,4 +1,5 @@
 // The desk's line for one answered record. Its room is tested once: behind the test each part asks for the room that it may take.
+// Each part has a room of its own, so it asks for it itself; buffer and place are two arguments for the reason at the head of desk_text.
 #![tactic(auto)]
 
 mod extra;
@@ -18,6 +19,7 @@ use rules::{Feed, Record, Scan};
 // No line is longer.
 const LINE_ROOM: usize = 640;
 
+// The letters are functions: `From` belongs to `rules`, which has no letters, and a trait with two impls for two calls is no plainer.
 fn scan_letter(s: Scan) -> u8
     ensures { result ≡ scan_letter s }
 {
@@ -45,19 +47,20 @@ fn feed_letter(f: Feed) -> u8
 fn put_letter(out: &mut [u8], at: usize, b: u8) -> usize
     requires { at + letter_room ≤ length out.old }
     ensures puts { Puts out.old at (b ∷ 32 ∷ []) result out.new }
-    ensures upper_bound { result ≤ at + letter_room }
+    ensures inside { result ≤ at + letter_room }
 {
     let space = text::set_byte(out, at, b);
     text::set_byte(out, space, b' ')
 }
 
+// A digit and its space go to places that `at` alone gives, with no join between: most numbers have one digit.
 fn put_number(out: &mut [u8], at: usize, n: u64) -> usize
     requires { at + number_room ≤ length out.old }
     ensures puts { Puts out.old at (decimal n ++ 32 ∷ []) result out.new }
-    ensures upper_bound { result ≤ at + number_room }
+    ensures inside { result ≤ at + number_room }
 {
     if n < 10 {
-        out[at] = 48 + n as u8;
+        out[at] = b'0' + n as u8;
         out[at + 1] = b' ';
         return at + 2;
     }
@@ -68,7 +71,7 @@ fn put_number(out: &mut [u8], at: usize, n: u64) -> usize
 fn put_kind(out: &mut [u8], at: usize, kind: u8) -> usize
     requires { at + kind_room ≤ length out.old }
     ensures puts { Puts out.old at (hex_byte kind ++ 32 ∷ []) result out.new }
-    ensures upper_bound { result ≤ at + kind_room }
+    ensures inside { result ≤ at + kind_room }
 {
     let space = desk_text::put_hex(out, at, kind);
     text::set_byte(out, space, b' ')
@@ -78,20 +81,21 @@ fn put_kind(out: &mut [u8], at: usize, kind: u8) -> usize
 fn put_count(out: &mut [u8], at: usize, count: u32) -> usize
     requires { at + count_room ≤ length out.old }
     ensures puts { Puts out.old at (count_text count) result out.new }
-    ensures upper_bound { result ≤ at + count_room }
+    ensures inside { result ≤ at + count_room }
 {
-    if count < 2147483648 {
-        return text::set_decimal(out, at, count as u64);
+    let signed = count.cast_signed();
+    if signed < 0 {
+        let digits = text::set_byte(out, at, b'-');
+        return text::set_decimal(out, digits, u64::from(signed.unsigned_abs()));
     }
-    let digits = text::set_byte(out, at, b'-');
-    text::set_decimal(out, digits, 4294967296 - count as u64)
+    text::set_decimal(out, at, u64::from(count))
 }
 
 // ---- the line
 fn put_states(out: &mut [u8], at: usize, s: Scan, f: Feed) -> usize
     requires { at + states_room ≤ length out.old }
     ensures puts { Puts out.old at (scan_letter s ∷ 32 ∷ feed_letter f ∷ 32 ∷ []) result out.new }
-    ensures upper_bound { result ≤ at + states_room }
+    ensures inside { result ≤ at + states_room }
 {
     let second = put_letter(out, at, scan_letter(s));
     put_letter(out, second, feed_letter(f))
@@ -101,10 +105,10 @@ fn put_head(out: &mut [u8], at: usize, kind: u8, number: u16, s: Scan, f: Feed) 
     requires { at + head_room ≤ length out.old }
     ensures puts { Puts out.old at
         ((hex_byte kind ++ 32 ∷ []) ++ (decimal number ++ 32 ∷ []) ++ scan_letter s ∷ 32 ∷ feed_letter f ∷ 32 ∷ []) result out.new }
-    ensures upper_bound { result ≤ at + head_room }
+    ensures inside { result ≤ at + head_room }
 {
     let second = put_kind(out, at, kind);
-    let third = put_number(out, second, number as u64);
+    let third = put_number(out, second, u64::from(number));
     put_states(out, third, s, f)
 }
 
@@ -112,15 +116,16 @@ fn put_counts(out: &mut [u8], at: usize, job: u32, side: u16, count: u32) -> usi
     requires { at + counts_room ≤ length out.old }
     ensures puts { Puts out.old at
         ((decimal job ++ 32 ∷ []) ++ (decimal side ++ 32 ∷ []) ++ count_text count ++ 32 ∷ []) result out.new }
-    ensures upper_bound { result ≤ at + counts_room }
+    ensures inside { result ≤ at + counts_room }
 {
-    let second = put_number(out, at, job as u64);
-    let third = put_number(out, second, side as u64);
+    let second = put_number(out, at, u64::from(job));
+    let third = put_number(out, second, u64::from(side));
     let space = put_count(out, third, count);
     text::set_byte(out, space, b' ')
 }
 
-// The line of an answer with that number, and of the record that it leaves.
+// The line of an answer with that number, and of the record that it leaves. Each argument has another source, and a struct of them
+// would be made for one call.
 fn set_line(
     out: &mut [u8],
     at: usize,
@@ -133,11 +138,7 @@ fn set_line(
     requires { at + line_room ≤ length out.old }
     ensures { Puts out.old at (line_of kind number (values_told r reply.now answer) r) result out.new }
 {
-    let scanner = r.scanner;
-    let feeder = r.feeder;
-    let s = scanner.state;
-    let f = feeder.state;
-    let counts = put_head(out, at, kind, number, s, f);
+    let counts = put_head(out, at, kind, number, r.scanner.state, r.feeder.state);
     let extra = put_counts(out, counts, r.job.held, r.side.number, r.side.count);
     let last = extra::put_extra(out, extra, r, answer, reply);
     text::set_byte(out, last, b'\n')
@@ -147,13 +148,12 @@ fn set_line(
 pub fn has_room(filled: usize, room: usize) -> bool
     ensures { result ≡ leb (filled + line_room) room }
 {
-    if room < LINE_ROOM {
-        return false;
-    }
-    filled <= room - LINE_ROOM
+    room.checked_sub(LINE_ROOM)
+        .is_some_and(|last| filled <= last)
 }
 
-// The line, where any line has room; else nothing.
+// The line, where any line has room; else nothing. The number stands beside the answer: `line_of` is promised for any number. Each
+// argument has another source, and a struct of them would be made for one call.
 pub fn put_line(
     out: &mut [u8],
     at: usize,

@@ -2,17 +2,19 @@
 // kept of it, and where the next bytes go.
 #![tactic(auto)]
 
-ghost use Rattle.std.specs.Prelude.{◌≡◌, ◌+◌, ◌-◌, ◌≤◌, min, length};
-ghost use Rattle.desk_text.specs.Put.{Puts};
+ghost use Rattle.std.specs.Prelude.{◌≡◌, ◌+◌, ◌≤◌, [], length, IfOk};
 ghost use Rattle.stored.specs.Stored.{is_box};
-ghost use Rattle.desk_loop.specs.Loop.{unread, held_in, at_first, filled, passed, settled, settled_window, turned};
+ghost use Rattle.desk_stream.specs.Boxed.{came_of};
+ghost use Rattle.desk_loop.specs.Loop.{at_first, filled, passing, settled, settled_window, turned};
 
+use answers::Why;
 use desk_stream::Came;
 use stored::WORDS;
 
 // Where the desk stands: `held` bytes of the input in the window, of which those before `at` are answered, and the offset in the
 // input of the byte at `at`; whether the input has ended, whether the window wants more of it, whether all is said; and how much
-// text the last turn put.
+// text the last turn put. `wants` and `over` may both hold, and `turned`, `Goes` and `room-to-read` tell each: no enum of the next
+// step has both. That `at` is no further than `held` is no invariant: `turn` takes any flow.
 #[derive(Clone, Copy)]
 pub struct Flow {
     pub at: usize,
@@ -40,107 +42,60 @@ pub fn begin() -> Flow
 }
 
 // ---- what a read brings
-fn hold(held: usize, got: usize, room: usize) -> usize
-    ensures { result ≡ held_in held got room }
-{
-    if room <= held {
-        return room;
-    }
-    if room - held <= got {
-        return room;
-    }
-    held + got
-}
-
-fn least(a: usize, b: usize) -> usize
-    ensures { result ≡ min a b }
-{
-    if a < b { a } else { b }
-}
-
 // So many bytes stand behind those that were held. A read that brings nothing ends the input.
 fn fill(f: Flow, got: usize, room: usize) -> Flow
     ensures { result ≡ filled f got room }
 {
-    let held = hold(f.held, got, room);
+    let held = f.held.saturating_add(got).min(room);
     Flow {
-        at: least(f.at, held),
+        at: f.at.min(held),
         held,
-        base: f.base,
         last: f.last | f.wants & (got == 0),
-        wants: f.wants,
-        over: f.over,
-        written: f.written,
+        ..f
     }
 }
 
 // ---- what is behind a window
-fn pass(f: Flow, came: Came, room: usize) -> Flow
-    requires { f.at + came.read ≤ f.held }
-    ensures { result ≡ passed f came.number came.read came.written came.ended room }
+// Behind a refusal nothing is read, nothing written, and all is said.
+fn pass(f: Flow, served: Result<Came, Why>, room: usize) -> Flow
+    requires front { f.at ≤ f.held }
+    requires within { IfOk served (λ came. f.at + came.read ≤ f.held) }
+    ensures { result ≡ passing f (came_of served [] [] [] []) room }
 {
+    let Ok(came) = served else {
+        return Flow {
+            wants: desk_line::has_room(0, room),
+            over: true,
+            written: 0,
+            ..f
+        };
+    };
     let at = f.at + came.read;
     Flow {
         at,
-        held: f.held,
-        base: std::num::wrapping_add_u64(f.base, came.read as u64),
-        last: f.last,
+        base: f.base.wrapping_add(came.read as u64),
         wants: desk_line::has_room(came.written, room),
-        over: came.ended | (came.number > 0) | f.last & (at == f.held),
+        over: came.ended | f.last & (at == f.held),
         written: came.written,
+        ..f
     }
 }
 
-// What is left of `a`, 0 where `b` exceeds it.
-fn less(a: usize, b: usize) -> usize
-    ensures { result ≡ a - b }
-{
-    if b <= a { a - b } else { 0 }
-}
-
-// How many bytes stand from `at` to `held` in a buffer.
-fn count(len: usize, at: usize, held: usize) -> usize
-    ensures { result ≡ min (held - at) (len - at) }
-{
-    if held < len {
-        return less(held, at);
-    }
-    less(len, at)
-}
-
-// Moves the bytes from `at` to `held` to the front of a buffer, so that there is room behind them, and answers how many they are.
-fn keep(buf: &mut [u8], at: usize, held: usize) -> usize
-    ensures puts { Puts buf.old 0 (unread buf.old at held) result buf.new }
-    ensures upper_bound { result ≤ length buf.new }
-{
-    let n = count(buf.len(), at, held);
-    let mut i: usize = 0;
-    while i < n {
-        buf[i] = buf[at + i];
-        i += 1;
-    }
-    n
-}
-
-// A window that wants more input begins with what is not answered.
+// A window that wants more input begins with what is not answered: so there is room behind it.
 fn settle(buf: &mut [u8], f: Flow) -> Flow
-    requires at_le_held { f.at ≤ f.held }
-    requires held_in_bounds { f.held ≤ length buf.old }
-    ensures value { result ≡ settled f }
-    ensures buf_after { buf.new ≡ settled_window f buf.old }
+    requires front { f.at ≤ f.held }
+    requires back { f.held ≤ length buf.old }
+    ensures flow { result ≡ settled f }
+    ensures window { buf.new ≡ settled_window f buf.old }
 {
     if !f.wants {
         return f;
     }
-    let kept = keep(buf, f.at, f.held);
+    buf.copy_within(f.at..f.held, 0);
     Flow {
         at: 0,
-        held: kept,
-        base: f.base,
-        last: f.last,
-        wants: f.wants,
-        over: f.over,
-        written: f.written,
+        held: f.held - f.at,
+        ..f
     }
 }
 
@@ -154,7 +109,7 @@ pub fn turn(
     f: Flow,
     got: usize,
 ) -> Flow
-    ensures out_after { record {
+    ensures turned { record {
       flow = result;
       words = w.new;
       ring = ring.new;
@@ -168,13 +123,12 @@ pub fn turn(
           window = buf.old;
           lines = out.old;
         }) }
-    ensures held_in_bounds { result.held ≤ length buf.new }
-    ensures written_in_bounds { result.written ≤ length out.new }
-    ensures ring_unchanged { is_box w.new (length ring.new) ≡ is_box w.old (length ring.old) }
+    ensures window_holds { result.held ≤ length buf.new }
+    ensures lines_hold { result.written ≤ length out.new }
+    ensures box_stays { is_box w.new (length ring.new) ≡ is_box w.old (length ring.old) }
 {
     let full = fill(f, got, buf.len());
-    let at = full.at;
-    let held = full.held;
-    let came = desk_stream::serve(w, ring, &buf[at..held], full.base, full.last, out);
-    settle(buf, pass(full, came, out.len()))
+    let window = &buf[full.at..full.held];
+    let served = desk_stream::serve(w, ring, window, full.base, full.last, out);
+    settle(buf, pass(full, served, out.len()))
 }

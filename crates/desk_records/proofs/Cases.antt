@@ -1,21 +1,18 @@
 -- The form of a record held to the paper: mark A5 5A, kind, length, payload. A definition that is wrong fails at the line of a case,
 -- also where the code is wrong with it.
-use Rattle.std.specs.Prelude.{ℕ, refl, Bool, true, false, List, [], ◌∷◌, ◌++◌, replicate}
+use Rattle.std.specs.Prelude.{ℕ, refl, Bool, true, false, Result, Ok, Err, List, [], ◌∷◌, ◌++◌, replicate}
 use Rattle.rules.specs.Cases.{Case, that}
+use Rattle.answers.specs.declared.Request.{Request}
 use Rattle.answers.specs.declared.Why.TheVariants.{Unlisted, NoRoom}
 use Rattle.answers.specs.declared.Request.TheVariants.{StartScan, Fetch, Tick}
 use Rattle.desk_text.specs.Literal.{bytes}
 use Rattle.desk_kinds.specs.Numbers.{big_endian}
 use Rattle.desk_kinds.specs.Kinds.{entries, entry_in, limits_of, asking_of}
 use Rattle.desk_records.specs.declared.Fault.TheVariants.{Mark, Kind, Length as Size, Cut}
-use Rattle.desk_records.specs.declared.Front.{Front}
-use Rattle.desk_records.specs.declared.Front.TheVariants.{Whole, Wrong}
-use Rattle.desk_records.specs.declared.Reading.{Reading}
-use Rattle.desk_records.specs.declared.Reading.TheVariants.{Record, Bad}
+use Rattle.desk_records.specs.Reading.{second_mark, length_width, Front, whole_of, wrong_at, sized, front, Reading, found_at, bad_at}
+use Rattle.desk_records.specs.Reading.{placed, read_with, read_at, cut_at, part_of}
+use Rattle.desk_records.specs.declared.Bad.{Bad}
 use Rattle.desk_records.specs.declared.Hearing.{Hearing}
-use Rattle.desk_records.specs.declared.Hearing.TheVariants.{Record as Hears, Bad as Unheard}
-use Rattle.desk_records.specs.declared.Written.TheVariants.{Length, Refused}
-use Rattle.desk_records.specs.Reading.{second_mark, length_width, sized, front, placed, read_with, read_at, cut_at, part_of}
 use Rattle.desk_records.specs.Hearing.{hear_at}
 use Rattle.desk_records.specs.Writing.{in_bytes, record_of, Wrote, writing_with, writing, number_in, length_of}
 
@@ -27,23 +24,23 @@ reads s at = read_at s at
 pub readings : List (Case Reading)
 unfolding reads
 readings =
-    that "a record" (reads (bytes "A55A 22 01 01") 0) (Record 0x22 4 1 5) refl
-    ∷ that "with no payload" (reads (bytes "A55A 24 00") 0) (Record 0x24 4 0 4) refl
-    ∷ that "with the longest" (reads (bytes "A55A 20 FF" ++ replicate 255 0) 0) (Record 0x20 4 255 259) refl
-    ∷ that "behind a record, before another" (reads (bytes "A55A2100 A55A 20 02 4142 A55A2400") 4) (Record 0x20 8 2 10) refl
-    ∷ that "wrong mark: its first byte" (reads (bytes "A45A 22 01 01") 0) (Bad 0) refl
-    ∷ that "wrong mark: its second byte" (reads (bytes "A55B 22 01 01") 0) (Bad 0) refl
-    ∷ that "unknown kind" (reads (bytes "A55A 09 00") 0) (Bad 0) refl
-    ∷ that "wrong length: too short" (reads (bytes "A55A 22 00") 0) (Bad 0) refl
-    ∷ that "wrong length: too long" (reads (bytes "A55A 22 02 0101") 0) (Bad 0) refl
-    ∷ that "cut in its mark" (reads (bytes "A5") 0) (Bad 0) refl
-    ∷ that "cut before its length" (reads (bytes "A55A 22") 0) (Bad 0) refl
-    ∷ that "cut in its payload" (reads (bytes "A55A 20 02 41") 0) (Bad 0) refl
-    ∷ that "empty" (reads [] 0) (Bad 0) refl
-    ∷ that "bad behind a record: with its place" (reads (bytes "A55A2100 A55A0900") 4) (Bad 4) refl
-    ∷ that "inside a record" (reads (bytes "A55A2100") 1) (Bad 1) refl
-    ∷ that "at the end" (reads (bytes "A55A2100") 4) (Bad 4) refl
-    ∷ that "past the end" (reads (bytes "A55A2100") 9) (Bad 9) refl
+    that "a record" (reads (bytes "A55A 22 01 01") 0) (found_at 0x22 4 1 5) refl
+    ∷ that "with no payload" (reads (bytes "A55A 24 00") 0) (found_at 0x24 4 0 4) refl
+    ∷ that "with the longest" (reads (bytes "A55A 20 FF" ++ replicate 255 0) 0) (found_at 0x20 4 255 259) refl
+    ∷ that "behind a record, before another" (reads (bytes "A55A2100 A55A 20 02 4142 A55A2400") 4) (found_at 0x20 8 2 10) refl
+    ∷ that "wrong mark: its first byte" (reads (bytes "A45A 22 01 01") 0) (Err (bad_at 0)) refl
+    ∷ that "wrong mark: its second byte" (reads (bytes "A55B 22 01 01") 0) (Err (bad_at 0)) refl
+    ∷ that "unknown kind" (reads (bytes "A55A 09 00") 0) (Err (bad_at 0)) refl
+    ∷ that "wrong length: too short" (reads (bytes "A55A 22 00") 0) (Err (bad_at 0)) refl
+    ∷ that "wrong length: too long" (reads (bytes "A55A 22 02 0101") 0) (Err (bad_at 0)) refl
+    ∷ that "cut in its mark" (reads (bytes "A5") 0) (Err (bad_at 0)) refl
+    ∷ that "cut before its length" (reads (bytes "A55A 22") 0) (Err (bad_at 0)) refl
+    ∷ that "cut in its payload" (reads (bytes "A55A 20 02 41") 0) (Err (bad_at 0)) refl
+    ∷ that "empty" (reads [] 0) (Err (bad_at 0)) refl
+    ∷ that "bad behind a record: with its place" (reads (bytes "A55A2100 A55A0900") 4) (Err (bad_at 4)) refl
+    ∷ that "inside a record" (reads (bytes "A55A2100") 1) (Err (bad_at 1)) refl
+    ∷ that "at the end" (reads (bytes "A55A2100") 4) (Err (bad_at 4)) refl
+    ∷ that "past the end" (reads (bytes "A55A2100") 9) (Err (bad_at 9)) refl
     ∷ []
 
 -- ---- which byte is wrong, and why
@@ -53,14 +50,14 @@ front_of s = front second_mark length_width s
 pub fronts : List (Case Front)
 unfolding reads
 fronts =
-    that "a record" (front_of (bytes "A55A 22 01 01")) (Whole 0x22 1) refl
-    ∷ that "wrong mark: its first byte" (front_of (bytes "A45A 22 01 01")) (Wrong Mark 0) refl
-    ∷ that "wrong mark: its second byte" (front_of (bytes "A55B 22 01 01")) (Wrong Mark 1) refl
-    ∷ that "unknown kind" (front_of (bytes "A55A 09 00")) (Wrong Kind 2) refl
-    ∷ that "wrong length" (front_of (bytes "A55A 22 02")) (Wrong Size 3) refl
-    ∷ that "cut in its head" (front_of (bytes "A55A 22")) (Wrong Cut 3) refl
-    ∷ that "cut in its payload" (front_of (bytes "A55A 20 02 41")) (Wrong Cut 5) refl
-    ∷ that "empty" (front_of []) (Wrong Cut 0) refl
+    that "a record" (front_of (bytes "A55A 22 01 01")) (whole_of 0x22 1) refl
+    ∷ that "wrong mark: its first byte" (front_of (bytes "A45A 22 01 01")) (wrong_at Mark 0) refl
+    ∷ that "wrong mark: its second byte" (front_of (bytes "A55B 22 01 01")) (wrong_at Mark 1) refl
+    ∷ that "unknown kind" (front_of (bytes "A55A 09 00")) (wrong_at Kind 2) refl
+    ∷ that "wrong length" (front_of (bytes "A55A 22 02")) (wrong_at Size 3) refl
+    ∷ that "cut in its head" (front_of (bytes "A55A 22")) (wrong_at Cut 3) refl
+    ∷ that "cut in its payload" (front_of (bytes "A55A 20 02 41")) (wrong_at Cut 5) refl
+    ∷ that "empty" (front_of []) (wrong_at Cut 0) refl
     ∷ []
 
 -- ---- the bytes are right as far as they go, and end before the record does
@@ -90,13 +87,16 @@ parts =
     ∷ []
 
 -- ---- what a record that reads asks
-pub hearings : List (Case Hearing)
+abbrev pub hears : Request → ℕ → ℕ → ℕ → ℕ → Result Hearing Bad
+hears q k start n next = Ok (record { request = q; found = record { kind = k; start = start; len = n; next = next } })
+
+pub hearings : List (Case (Result Hearing Bad))
 unfolding reads asking_of hear_at
 hearings =
-    that "StartScan" (hear_at (bytes "A55A 01 06 02 0001 02 000A") 0) (Hears 0x01 (StartScan 2 1 2 10) 4 6 10) refl
-    ∷ that "Fetch behind a Tick" (hear_at (bytes "A55A2400 A55A 06 03 08 4A31") 4) (Hears 0x06 (Fetch 8) 8 3 11) refl
-    ∷ that "a Tick before it" (hear_at (bytes "A55A2400 A55A 06 03 08 4A31") 0) (Hears 0x24 Tick 4 0 4) refl
-    ∷ that "bad with its place" (hear_at (bytes "A55A2400 A55A 06 00") 4) (Unheard 4) refl
+    that "StartScan" (hear_at (bytes "A55A 01 06 02 0001 02 000A") 0) (hears (StartScan 2 1 2 10) 0x01 4 6 10) refl
+    ∷ that "Fetch behind a Tick" (hear_at (bytes "A55A2400 A55A 06 03 08 4A31") 4) (hears (Fetch 8) 0x06 8 3 11) refl
+    ∷ that "a Tick before it" (hear_at (bytes "A55A2400 A55A 06 03 08 4A31") 0) (hears Tick 0x24 4 0 4) refl
+    ∷ that "bad with its place" (hear_at (bytes "A55A2400 A55A 06 00") 4) (Err (bad_at 4)) refl
     ∷ []
 
 -- ---- writing: the record; the number and the length told, and the lent buffer as it is left
@@ -130,8 +130,8 @@ writings =
 
 pub written_numbers : List (Case ℕ)
 written_numbers =
-    that "not listed" (number_in (Refused Unlisted)) 601 refl
-    ∷ that "a writer's buffer too short" (number_in (Refused NoRoom)) 603 refl
-    ∷ that "acceptance" (number_in (Length 6)) 0 refl
-    ∷ that "the length given" (length_of (Length 6)) 6 refl
+    that "not listed" (number_in (Err Unlisted)) 601 refl
+    ∷ that "a writer's buffer too short" (number_in (Err NoRoom)) 603 refl
+    ∷ that "acceptance" (number_in (Ok 6)) 0 refl
+    ∷ that "the length given" (length_of (Ok 6)) 6 refl
     ∷ []

@@ -1,10 +1,8 @@
 pub mod Cases
 pub mod Admits
-pub mod Fronts
 pub mod Heard
 pub mod Numbers
 pub mod OneRecord
-pub mod Placed
 pub mod RoundTrip
 pub mod Settled
 pub mod Stable

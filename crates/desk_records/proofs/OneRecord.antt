@@ -6,12 +6,13 @@ use mathlib.Core.List.{List, [], ◌∷◌, ◌++◌}
 use native.Mathlib.Omega.{arith}
 use lib.ListN.{length, get_or, take, drop, length-drop}
 use lib.Seq.{take-add, length-take-le}
+use Rattle.std.specs.Prelude.{Ok}
 use Rattle.rules.specs.Promises.{All}
 use Rattle.desk_text.specs.Put.{overlaid}
 use Rattle.desk_kinds.specs.Numbers.{big_endian}
 use Rattle.desk_kinds.specs.Kinds.{limits_of, within}
 use Rattle.desk_kinds.proofs.Entries.{listed-short}
-use Rattle.desk_records.specs.declared.Reading.{Reading}
+use Rattle.desk_records.specs.declared.Found.{Found}
 use Rattle.desk_records.specs.Reading.{first_mark, second_mark, length_at, length_width, head_of, length_in, read_with, read_at, part_of}
 use Rattle.desk_records.specs.Writing.{in_bytes, record_with, record_of, writing_with, writing}
 use Rattle.desk_records.proofs.Numbers.{Byte, bytes-number}
@@ -38,22 +39,22 @@ front-record {m} {w} {k} {n} {s} h b =
     sym (bytes-number w (drop length_at s) (simp length-drop (omega arith)) b) ∙ ap (in_bytes w) (h.size ∙ sym l) in
     take-add (head_of w) n s ∙ ap (λ (x : List ℕ). x ++ p) (take-add length_at w s ∙ ap₂ (λ (x y : List ℕ). x ++ y) first size)
 
-module _ (m w : ℕ) (s : List ℕ) (at : ℕ) {k start n next : ℕ} (e : read_with m w s at ≡ Reading.Record k start n next)
+module _ (m w : ℕ) (s : List ℕ) (at : ℕ) {r : Found} (e : read_with m w s at ≡ Ok r)
     (b : All Byte (take w (drop length_at (drop at s)))) where
-  pub read-was-written-with : (take (next - at) (drop at s) ≡ record_with m w k (part_of s start n))
-      × ((out : List ℕ) → next - at ≤ length out → writing_with m w k (part_of s start n) out
-      ≡ record { number = 0; long = next - at; buffer = overlaid out 0 (take (next - at) (drop at s)) })
+  pub read-was-written-with : (take (r.next - at) (drop at s) ≡ record_with m w r.kind (part_of s r.start r.len))
+      × ((out : List ℕ) → r.next - at ≤ length out → writing_with m w r.kind (part_of s r.start r.len) out
+      ≡ record { number = 0; long = r.next - at; buffer = overlaid out 0 (take (r.next - at) (drop at s)) })
   read-was-written-with =
       let h = stands (whole-at m w s at e) in
       let a = places m w s at e in
-      let d : next - at ≡ head_of w + n = omega (arith, a.0, a.1) in
+      let d : r.next - at ≡ head_of w + r.len = omega (arith, a.0, a.1) in
       let l = rw (← a.3) at h.allowed in
-      let bytes : take (next - at) (drop at s) ≡ record_with m w k (part_of s start n) =
-      ap (λ (i : ℕ). take i (drop at s)) d ∙ front-record h b ∙ ap (record_with m w k) (sym a.4) in (
+      let bytes : take (r.next - at) (drop at s) ≡ record_with m w r.kind (part_of s r.start r.len) =
+      ap (λ (i : ℕ). take i (drop at s)) d ∙ front-record h b ∙ ap (record_with m w r.kind) (sym a.4) in (
         bytes,
         λ out room.
-            sym (writes m w k (part_of s start n) out l (omega (arith, a.3)))
-            ∙ same-wrote (omega (arith, record-length m w k (part_of s start n), a.3)) (ap (overlaid out 0) (sym bytes)),
+            sym (writes m w r.kind (part_of s r.start r.len) out l (omega (arith, a.3)))
+            ∙ same-wrote (omega (arith, record-length m w r.kind (part_of s r.start r.len), a.3)) (ap (overlaid out 0) (sym bytes)),
       )
 
 -- a length of one byte that is listed is a byte
@@ -62,14 +63,14 @@ unfolding big_endian
 one_byte [] h = tt
 one_byte (b ∷ s) h = (omega arith, tt)
 
-pub read-was-written : (s : List ℕ) (at : ℕ) {k start n next : ℕ} → read_at s at ≡ Reading.Record k start n next
-    → (take (next - at) (drop at s) ≡ record_of k (part_of s start n))
-    × ((out : List ℕ) → next - at ≤ length out → writing k (part_of s start n) out
-    ≡ record { number = 0; long = next - at; buffer = overlaid out 0 (take (next - at) (drop at s)) })
-read-was-written s at {k} {start} {n} {next} e =
+pub read-was-written : (s : List ℕ) (at : ℕ) {r : Found} → read_at s at ≡ Ok r
+    → (take (r.next - at) (drop at s) ≡ record_of r.kind (part_of s r.start r.len))
+    × ((out : List ℕ) → r.next - at ≤ length out → writing r.kind (part_of s r.start r.len) out
+    ≡ record { number = 0; long = r.next - at; buffer = overlaid out 0 (take (r.next - at) (drop at s)) })
+read-was-written s at {r} e =
     let h = stands (whole-at second_mark length_width s at e) in
     read-was-written-with second_mark length_width s at e
-    (one_byte (drop length_at (drop at s)) (rw h.size (listed-short k n h.allowed)))
+    (one_byte (drop length_at (drop at s)) (rw h.size (listed-short r.kind r.len h.allowed)))
 
 -- ---- bytes that begin with two records begin with one
 pub one-record-with : (m w k k' : ℕ) (p p' r r' : List ℕ) → length p < 256 ^ w → length p' < 256 ^ w

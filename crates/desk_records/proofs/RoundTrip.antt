@@ -10,9 +10,8 @@ use lib.Seq.{drop-append_seam, drop_at, take-append_seam}
 use Rattle.desk_kinds.specs.Numbers.{big_endian}
 use Rattle.desk_kinds.specs.Kinds.{limits_of, within}
 use Rattle.desk_kinds.proofs.Entries.{listed-short}
-use Rattle.desk_records.specs.declared.Front.{Front}
-use Rattle.desk_records.specs.declared.Reading.{Reading}
-use Rattle.desk_records.specs.Reading.{first_mark, second_mark, length_width, head_of, length_in, front, placed, read_with, read_at, part_of}
+use Rattle.desk_records.specs.Reading.{first_mark, second_mark, length_width, head_of, length_in, whole_of, front, found_at, placed}
+use Rattle.desk_records.specs.Reading.{read_with, read_at, part_of}
 use Rattle.desk_records.specs.Writing.{in_bytes, record_with, record_of, Wrote, writing_with, writing}
 use Rattle.desk_records.proofs.Numbers.{length-bytes, number-bytes}
 use Rattle.desk_records.proofs.Stands.{whole}
@@ -31,7 +30,7 @@ module _ (m w k : ℕ) (p rest : List ℕ) where
       ∙ ap (take (length p)) (drop_at head (p ++ rest) (head_of w) (omega (arith, length-bytes w (length p))))
       ∙ take-append_seam p rest
 
-  pub record-front : length p < 256 ^ w → within (limits_of k) (length p) ≡ true → front m w (record_with m w k p ++ rest) ≡ Front.Whole k (length p)
+  pub record-front : length p < 256 ^ w → within (limits_of k) (length p) ≡ true → front m w (record_with m w k p ++ rest) ≡ whole_of k (length p)
   record-front h l =
       whole
       record {
@@ -46,7 +45,7 @@ module _ (m w k : ℕ) (p rest : List ℕ) where
 -- ---- behind any bytes too
 module _ (m w k : ℕ) (p pre rest out : List ℕ) (h : length p < 256 ^ w) (e : (writing_with m w k p out).number ≡ 0) where
   pub written-reads-with : read_with m w (pre ++ (record_with m w k p ++ rest)) (length pre)
-      ≡ Reading.Record k (length pre + head_of w) (length p) (length pre + (writing_with m w k p out).long)
+      ≡ found_at k (length pre + head_of w) (length p) (length pre + (writing_with m w k p out).long)
   unfolding read_with placed
   written-reads-with =
       let a = accepted m w k p out e in
@@ -54,7 +53,7 @@ module _ (m w k : ℕ) (p pre rest out : List ℕ) (h : length p < 256 ^ w) (e :
       let z : length pre + head_of w + length p ≡ length pre + (writing_with m w k p out).long = omega (arith, n, record-length m w k p) in
       ap (λ (x : List ℕ). placed w (length pre) (front m w x)) (drop-append_seam pre (record_with m w k p ++ rest))
       ∙ ap (placed w (length pre)) (record-front m w k p rest h a.0)
-      ∙ ap (Reading.Record k (length pre + head_of w) (length p)) z
+      ∙ ap (found_at k (length pre + head_of w) (length p)) z
 
   pub written-payload-with : part_of (pre ++ (record_with m w k p ++ rest)) (length pre + head_of w) (length p) ≡ p
   written-payload-with =
@@ -68,7 +67,7 @@ module _ (k : ℕ) (p pre rest out : List ℕ) (e : (writing k p out).number ≡
   short = let l = listed-short k (length p) (accepted second_mark length_width k p out e).0 in omega arith
 
   pub written-reads : read_at (pre ++ (record_of k p ++ rest)) (length pre)
-      ≡ Reading.Record k (length pre + 4) (length p) (length pre + (writing k p out).long)
+      ≡ found_at k (length pre + 4) (length p) (length pre + (writing k p out).long)
   written-reads = written-reads-with second_mark length_width k p pre rest out short e
 
   pub written-payload : part_of (pre ++ (record_of k p ++ rest)) (length pre + 4) (length p) ≡ p

@@ -11,8 +11,7 @@ use borrow.Author.Tests.{leb-true, leb-false, le-leb}
 use Rattle.desk_kinds.specs.Numbers.{big_endian}
 use Rattle.desk_kinds.specs.Kinds.{limits_of, is_listed, within}
 use Rattle.desk_records.specs.declared.Fault.{Fault}
-use Rattle.desk_records.specs.declared.Front.{Front}
-use Rattle.desk_records.specs.Reading.{first_mark, second_mark, length_at, length_width, head_of, length_in, expect, sized, front}
+use Rattle.desk_records.specs.Reading.{first_mark, second_mark, length_at, length_width, head_of, length_in, Front, wrong_at, expect, sized, front}
 use Rattle.desk_records.specs.Reading.{placed, read_with, read_at, cut, cut_at}
 
 number-stays : (w : ℕ) (s t : List ℕ) → w ≤ length s → big_endian w (s ++ t) ≡ big_endian w s
@@ -25,14 +24,14 @@ number-stays (suc w) s t h =
 module _ (s t : List ℕ) (f : Front) (c : cut f ≡ false) where
   picked : (i j : ℕ) (b ok ok' : Bool) (fault : Fault) (rest rest' : Front) → leb i (length s) ≡ b
       → (i ≤ length s → ok' ≡ ok) → (i ≤ length s → rest ≡ f → rest' ≡ f)
-      → cond b (cond ok rest (Front.Wrong fault j)) (Front.Wrong Fault.Cut (length s)) ≡ f
-      → cond (leb i (length (s ++ t))) (cond ok' rest' (Front.Wrong fault j)) (Front.Wrong Fault.Cut (length (s ++ t))) ≡ f
+      → cond b (cond ok rest (wrong_at fault j)) (wrong_at Fault.Cut (length s)) ≡ f
+      → cond (leb i (length (s ++ t))) (cond ok' rest' (wrong_at fault j)) (wrong_at Fault.Cut (length (s ++ t))) ≡ f
   picked i j false ok ok' fault rest rest' b same later e = absurd (true≢false (ap cut e ∙ c))
   picked i j true ok ok' fault rest rest' b same later e =
       let h = leb-true i (length s) b in
       rw (le-leb i (length (s ++ t)) (omega (arith, length-append s t)), same h) (chosen ok (later h) e)
     where
-      chosen : (ok : Bool) → (rest ≡ f → rest' ≡ f) → cond ok rest (Front.Wrong fault j) ≡ f → cond ok rest' (Front.Wrong fault j) ≡ f
+      chosen : (ok : Bool) → (rest ≡ f → rest' ≡ f) → cond ok rest (wrong_at fault j) ≡ f → cond ok rest' (wrong_at fault j) ≡ f
       chosen true g e = g e
       chosen false g e = e
 

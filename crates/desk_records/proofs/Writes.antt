@@ -9,20 +9,17 @@ use lib.Dec.{leb}
 use lib.ListN.{length, length-append}
 use borrow.Author.Tests.{le-leb, lt-leb}
 use Rattle.rules.specs.Calls.{n601, n603}
-use Rattle.rules.proofs.Guards.{went_on, stopped-at}
+use Rattle.rules.proofs.Guards.{went_on}
 use Rattle.desk_text.specs.Put.{Puts}
 use Rattle.desk_text.proofs.Putting.{then, moved, whole-next, whole-stands}
+use Rattle.std.specs.Prelude.{Option}
 use Rattle.desk_kinds.specs.declared.Limits.{Limits}
 use Rattle.desk_kinds.specs.Kinds.{limits_of, within}
 use Rattle.desk_records.specs.Reading.{head_of}
 use Rattle.desk_records.specs.Writing.{in_bytes, record_with, Wrote, wrote_all, wrote_none, writing_with}
 use Rattle.desk_records.proofs.Numbers.{length-bytes}
 
--- ---- a number in one byte, and in two
-pub put_one : {o o₁ : List ℕ} {at r : ℕ} (w n : ℕ) → w ≡ 1 → Puts o at ((n % 256) ∷ []) r o₁ → Puts o at (in_bytes w n) r o₁
-unfolding in_bytes
-put_one w n e p = moved p (rw e (simp div-one))
-
+-- ---- a number in two bytes
 pub put_two : {o o₁ o₂ : List ℕ} {at r q : ℕ} (w n : ℕ) → (w ≡ 1 → ⊥) → (1 ≤ w) × (w ≤ 2)
     → Puts o at ((n / 256 % 256) ∷ []) r o₁ → Puts o₁ r ((n % 256) ∷ []) q o₂ → Puts o at (in_bytes w n) q o₂
 unfolding in_bytes
@@ -45,13 +42,9 @@ module _ (m w k : ℕ) (p out : List ℕ) where
   writes e h = rw (e, le-leb (length (record_with m w k p)) (length out) (omega (arith, record-length m w k p)))
 
   -- by the code's tests: `t`, of what the table was asked for, and the buffer's length; `x` is what is told and left
-  module _ {f : Limits} {t : Bool} (e : f ≡ limits_of k) (g : t ≡ within f (length p)) where
+  module _ {f : Option Limits} {t : Bool} (e : f ≡ limits_of k) (g : t ≡ within f (length p)) where
     asked : t ≡ within (limits_of k) (length p)
-    asked = g ∙ ap (λ (l : Limits). within l (length p)) e
-
-    pub told-601 : {x : Wrote} → not t ≡ true → x ≡ wrote_none n601 out → x ≡ writing_with m w k p out
-    unfolding writing_with
-    told-601 h q = rw (stopped-at _ t asked h) q
+    asked = g ∙ ap (λ (l : Option Limits). within l (length p)) e
 
     pub told-603 : {x : Wrote} → not t ≡ false → length out < head_of w + length p → x ≡ wrote_none n603 out → x ≡ writing_with m w k p out
     unfolding writing_with

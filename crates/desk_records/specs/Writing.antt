@@ -1,10 +1,10 @@
 -- What writing a record into a lent buffer comes to.
-use Rattle.std.specs.Prelude.{ℕ, zero, suc, ◌/◌, ◌%◌, ◌^◌, cond, List, [], ◌∷◌, ◌++◌, length, leb}
+use Rattle.std.specs.Prelude.{ℕ, zero, suc, ◌/◌, ◌%◌, ◌^◌, cond, Result, Ok, Err, List, [], ◌∷◌, ◌++◌, length, leb}
 use Rattle.rules.specs.Calls.{Reason, n601, n603, number_of}
+use Rattle.answers.specs.declared.Why.{Why}
 use Rattle.answers.specs.Told.{reason_of}
 use Rattle.desk_text.specs.Put.{overlaid}
 use Rattle.desk_kinds.specs.Kinds.{limits_of, within}
-use Rattle.desk_records.specs.declared.Written.{Written}
 use Rattle.desk_records.specs.Reading.{first_mark, second_mark, length_width}
 
 -- a number in w bytes, big-endian
@@ -19,14 +19,18 @@ record_with m w k p = first_mark ∷ m ∷ k ∷ in_bytes w (length p) ++ p
 abbrev pub record_of : ℕ → List ℕ → List ℕ
 record_of k p = record_with second_mark length_width k p
 
+-- how many bytes stand at the front of the buffer, or why none do
+abbrev pub Written : Type 0
+Written = Result ℕ Why
+
 -- the paper's number and value of each case of an answer
 abbrev pub number_in : Written → ℕ
-number_in (Written.Length n) = 0
-number_in (Written.Refused why) = number_of (reason_of why)
+number_in (Ok n) = 0
+number_in (Err why) = number_of (reason_of why)
 
 abbrev pub length_of : Written → ℕ
-length_of (Written.Length n) = n
-length_of (Written.Refused why) = 0
+length_of (Ok n) = n
+length_of (Err why) = 0
 
 -- what writing comes to: the number and the length that it tells, and the buffer as it is left
 pub record Wrote : Type 0 where

@@ -1,22 +1,43 @@
 // Desk records: mark A5 5A, kind, length, payload.
 #![tactic(auto)]
 
-use answers::{Request, Why};
+ghost use Rattle.std.specs.Prelude.{◌≡◌, ◌≤◌};
+ghost use Rattle.desk_records.specs.Reading.{head_of};
+
+use answers::Request;
 
 pub mod read;
 pub mod write;
 
 const FIRST_MARK: u8 = 0xA5;
 
-// The form of the desk's records: the second byte of the mark, and the width of the length.
-const MARK: u8 = 0x5A;
-
-const WIDTH: usize = 1;
-
 // Where the kind stands, behind the mark, and then the length.
 const KIND_AT: usize = 2;
 
 const LENGTH_AT: usize = 3;
+
+// The form of a record: the second byte of its mark, and the width of its length.
+#[derive(Clone, Copy)]
+struct Form {
+    mark: u8,
+    width: usize,
+    ghost one_or_two: { (1 ≤ width) × (width ≤ 2) },
+}
+
+// The desk's.
+const FORM: Form = Form {
+    mark: 0x5A,
+    width: 1,
+};
+
+impl Form {
+    // How long mark, kind and length are.
+    fn head(self) -> usize
+        ensures { result ≡ head_of self.width }
+    {
+        LENGTH_AT + self.width
+    }
+}
 
 // Which byte of a record is wrong; or the bytes are right, and end before the record does.
 #[derive(Clone, Copy)]
@@ -27,41 +48,38 @@ pub enum Fault {
     Cut,
 }
 
-// What stands at the front of some bytes: a record with its kind and its payload's length, or the first byte that is wrong.
+// What stands at the front of some bytes: a record with its kind and its payload's length, ..
 #[derive(Clone, Copy)]
-pub enum Front {
-    Whole(u8, usize),
-    Wrong(Fault, usize),
+pub struct Whole {
+    pub kind: u8,
+    pub len: usize,
 }
 
-// What reading at a place answers.
+// .. or the first byte that is wrong.
 #[derive(Clone, Copy)]
-pub enum Reading {
-    Record {
-        kind: u8,
-        start: usize,
-        len: usize,
-        next: usize,
-    },
-    Bad(usize),
+pub struct Wrong {
+    pub fault: Fault,
+    pub at: usize,
+}
+
+// What reading at a place answers: a record, where its payload is, and the next place; ..
+#[derive(Clone, Copy)]
+pub struct Found {
+    pub kind: u8,
+    pub start: usize,
+    pub len: usize,
+    pub next: usize,
+}
+
+// .. or bad, with its place.
+#[derive(Clone, Copy)]
+pub struct Bad {
+    pub at: usize,
 }
 
 // What is heard at a place: a record that reads, with what it asks.
 #[derive(Clone, Copy)]
-pub enum Hearing {
-    Record {
-        kind: u8,
-        request: Request,
-        start: usize,
-        len: usize,
-        next: usize,
-    },
-    Bad(usize),
-}
-
-// What writing answers: how many bytes stand at the front of the buffer, or why none do.
-#[derive(Clone, Copy)]
-pub enum Written {
-    Length(usize),
-    Refused(Why),
+pub struct Hearing {
+    pub request: Request,
+    pub found: Found,
 }

@@ -1,56 +1,56 @@
 // Writing into the front of a lent buffer.
-ghost use Rattle.std.specs.Prelude.{◌≡◌, ◌≤◌};
+ghost use Rattle.std.specs.Prelude.{◌≡◌};
 ghost use Rattle.desk_text.specs.Put.{Puts};
 ghost use Rattle.desk_records.specs.Writing.{in_bytes, record_with, number_in, length_of, writing_with, writing};
 
-use crate::{LENGTH_AT, Written};
+use crate::{FIRST_MARK, FORM, Form};
 use answers::Why;
 use desk_kinds::table;
 
-fn put_number(out: &mut [u8], at: usize, width: usize, n: usize) -> usize
-    requires { (1 ≤ width) × (width ≤ 2) }
-    ensures { Puts out.old at (in_bytes width n) result out.new }
+#[tactic(auto, unfolding(crate::specs::Writing::in_bytes))]
+fn put_number(out: &mut [u8], at: usize, form: Form, n: usize) -> usize
+    ensures { Puts out.old at (in_bytes form.width n) result out.new }
 {
-    if width == 1 {
-        return desk_text::put_byte(out, at, (n % 256) as u8);
+    let [.., high, low] = n.to_be_bytes();
+    if form.width == 1 {
+        return desk_text::put_byte(out, at, low);
     }
-    let next = desk_text::put_byte(out, at, (n / 256 % 256) as u8);
-    desk_text::put_byte(out, next, (n % 256) as u8)
+    let next = desk_text::put_byte(out, at, high);
+    desk_text::put_byte(out, next, low)
 }
 
-fn put_record(out: &mut [u8], mark: u8, width: usize, kind: u8, body: &[u8]) -> usize
-    requires { (1 ≤ width) × (width ≤ 2) }
-    ensures { Puts out.old 0 (record_with mark width kind body.now) result out.new }
+fn put_record(out: &mut [u8], form: Form, kind: u8, body: &[u8]) -> usize
+    ensures { Puts out.old 0 (record_with form.mark form.width kind body.now) result out.new }
 {
-    let a = desk_text::put_byte(out, 0, crate::FIRST_MARK);
-    let b = desk_text::put_byte(out, a, mark);
+    let a = desk_text::put_byte(out, 0, FIRST_MARK);
+    let b = desk_text::put_byte(out, a, form.mark);
     let c = desk_text::put_byte(out, b, kind);
-    let d = put_number(out, c, width, body.len());
+    let d = put_number(out, c, form, body.len());
     desk_text::put_bytes(out, d, body)
 }
 
-fn write_with(out: &mut [u8], mark: u8, width: usize, kind: u8, body: &[u8]) -> Written
-    requires { (1 ≤ width) × (width ≤ 2) }
+#[tactic(auto, unfolding(crate::specs::Writing::writing_with))]
+fn write_with(out: &mut [u8], form: Form, kind: u8, body: &[u8]) -> Result<usize, Why>
     ensures { record {
       number = number_in result;
       long = length_of result;
       buffer = out.new;
     }
-        ≡ writing_with mark width kind body.now out.old }
+        ≡ writing_with form.mark form.width kind body.now out.old }
 {
-    let found = table::limits(kind);
     let n = body.len();
-    if !table::admits(found, n) {
-        return Written::Refused(Why::Unlisted);
+    if !table::admits(table::limits(kind), n) {
+        return Err(Why::Unlisted);
     }
-    if out.len() < LENGTH_AT + width + n {
-        return Written::Refused(Why::NoRoom);
+    let need = form.head() + n;
+    if out.len() < need {
+        return Err(Why::NoRoom);
     }
-    Written::Length(put_record(out, mark, width, kind, body))
+    Ok(put_record(out, form, kind, body))
 }
 
 // A record of a kind with a payload. The buffer stays as it was where the answer is a refusal.
-pub fn write(out: &mut [u8], kind: u8, body: &[u8]) -> Written
+pub fn write(out: &mut [u8], kind: u8, body: &[u8]) -> Result<usize, Why>
     ensures { record {
       number = number_in result;
       long = length_of result;
@@ -58,5 +58,5 @@ pub fn write(out: &mut [u8], kind: u8, body: &[u8]) -> Written
     }
         ≡ writing kind body.now out.old }
 {
-    write_with(out, crate::MARK, crate::WIDTH, kind, body)
+    write_with(out, FORM, kind, body)
 }

@@ -1,104 +1,82 @@
 -- For any numbers: a call that is not begun leaves all alone; for a box with room, what the code holds is what the definitions give.
-use Rattle.std.proofs.Common.{◌≡◌, ℕ, ◌+◌, ◌<◌, ◌≤◌, Bool, true, false, cond, leb, List, [], length, refl, ap, ◌∙◌, add-zero, zero-add, arith}
+use Rattle.std.proofs.Common.{◌≡◌, ℕ, ◌+◌, Bool, true, false, cond, leb, List, [], length, refl, ap, ◌∙◌, add-zero, zero-add, arith}
+use Rattle.std.specs.Prelude.{Result, Ok, Err, ⊤}
+use Rattle.rules.specs.Calls.{number_of}
+use Rattle.answers.specs.declared.Why.{Why}
+use Rattle.answers.specs.Told.{reason_of}
 use Rattle.desk_line.specs.Line.{line_room}
 use Rattle.stored.specs.Stored.{is_box}
+use Rattle.desk_stream.specs.declared.Came.{Came as Read}
+use Rattle.desk_stream.specs.declared.Performed.{Performed}
 use Rattle.desk_stream.specs.Desk.{hears}
 use Rattle.desk_stream.specs.Window.{Piece, piece, replied_in}
-use Rattle.desk_stream.specs.Held.{barred_by, Turns, Serves}
+use Rattle.desk_stream.specs.Held.{Turns, Serves}
 use Rattle.desk_stream.specs.Boxed.{box_in, Came, unsound_number, no_room_number, as_it_was, begun, serving, saying, performing}
+use Rattle.desk_stream.specs.Boxed.{barred_by, number_of_record, came_of, turn_of}
 
--- the number that bars a call decides it
-module _ (ws ring lines : List ℕ) {number : ℕ} (e : number ≡ barred_by ws (length ring) (length lines)) where
-  pub record Open : Type 0 where
-    pub box : is_box ws (length ring) ≡ true
-    pub room : leb (0 + line_room) (length lines) ≡ true
+abbrev clear : Result ⊤ Why
+clear = Ok tt
 
-  pub opened : number ≤ 0 → Open
-  opened h = go (is_box ws (length ring)) (leb (0 + line_room) (length lines)) refl refl (omega (arith, e))
+-- what bars a call decides it
+module _ (ws ring lines : List ℕ) where
+  pub barred-keeps : (reply : List ℕ) (came : Came) {why : Why} → Err why ≡ barred_by ws (length ring) (length lines)
+      → as_it_was (number_of (reason_of why)) ws ring reply lines ≡ begun ws ring reply lines came
+  barred-keeps reply came {why} h = go (is_box ws (length ring)) (leb (0 + line_room) (length lines)) h
     where
-      go : (b r : Bool) → is_box ws (length ring) ≡ b → leb (0 + line_room) (length lines) ≡ r → cond b (cond r 0 no_room_number) unsound_number ≤ 0 → Open
-      go true true f g h = record { box = f; room = g }
-      go true false f g h = absurd (omega arith)
-      go false r f g h = absurd (omega arith)
+      told : {w : Why} → why ≡ w → as_it_was (number_of (reason_of why)) ws ring reply lines ≡ as_it_was (number_of (reason_of w)) ws ring reply lines
+      told e = ap (λ (w : Why). as_it_was (number_of (reason_of w)) ws ring reply lines) e
 
-  pub barred-keeps : (reply : List ℕ) (came : Came) → 0 < number → as_it_was number ws ring reply lines ≡ begun ws ring reply lines came
-  barred-keeps reply came h =
-      ap (λ (n : ℕ). as_it_was n ws ring reply lines) e
-      ∙ go (is_box ws (length ring)) (leb (0 + line_room) (length lines)) (omega (arith, e))
-    where
-      go : (b r : Bool) → 0 < cond b (cond r 0 no_room_number) unsound_number
-          → as_it_was (cond b (cond r 0 no_room_number) unsound_number) ws ring reply lines
+      go : (b r : Bool) → Err why ≡ cond b (cond r clear (Err Why.NoRoom)) (Err Why.Unsound)
+          → as_it_was (number_of (reason_of why)) ws ring reply lines
           ≡ cond b (cond r came (as_it_was no_room_number ws ring reply lines)) (as_it_was unsound_number ws ring reply lines)
-      go true true h = absurd (omega arith)
-      go true false h = refl
-      go false r h = refl
+      go true true h = let z : ◌≡◌ {A = ℕ} 0 1 = cc in absurd (omega arith)
+      go true false h = told {w = Why.NoRoom} cc
+      go false r h = told {w = Why.Unsound} cc
 
-  pub begins : (reply : List ℕ) {x came : Came} → number ≤ 0 → x ≡ came → x ≡ begun ws ring reply lines came
-  begins reply h f = rw ((opened h).box, (opened h).room) f
+  pub begins : (reply : List ℕ) {x came : Came} {u : ⊤} → Ok u ≡ barred_by ws (length ring) (length lines) → x ≡ came
+      → x ≡ begun ws ring reply lines came
+  begins reply {x} {came} {u} h f = go (is_box ws (length ring)) (leb (0 + line_room) (length lines)) h
+    where
+      go : (b r : Bool) → Ok u ≡ cond b (cond r clear (Err Why.NoRoom)) (Err Why.Unsound)
+          → x ≡ cond b (cond r came (as_it_was no_room_number ws ring reply lines)) (as_it_was unsound_number ws ring reply lines)
+      go true true h = f
+      go true false h = let z : ◌≡◌ {A = ℕ} 0 1 = cc in absurd (omega arith)
+      go false r h = let z : ◌≡◌ {A = ℕ} 0 1 = cc in absurd (omega arith)
 
 -- a window in the program's hands
-pub serving-window : (ws ring input : List ℕ) (base : ℕ) (last : Bool) {lines ws' ring' lines' : List ℕ} {bar number read written : ℕ} {ended : Bool}
-    → bar ≡ barred_by ws (length ring) (length lines) → bar ≤ 0
-    → Serves base last ws ring input lines number read written ended ws' ring' lines'
-    → record {
-      number = number;
-      words = ws';
-      ring = ring';
-      reply = [];
-      lines = lines';
-      read = read;
-      written = written;
-      ended = ended;
-    }
-    ≡ serving ws ring input base last lines
-unfolding serving
-serving-window ws ring input base last {lines} e f h =
-    begins ws ring lines e [] f (rw (h.tells, h.keeps, h.rings, h.text, h.place, h.long, h.stopped) refl)
+module _ (ws ring input : List ℕ) (base : ℕ) (last : Bool) (lines : List ℕ) where
+  pub serving-window : (came : Read) {ws' ring' lines' : List ℕ} {u : ⊤} → Ok u ≡ barred_by ws (length ring) (length lines)
+      → Serves base last ws ring input lines came.read came.written came.ended ws' ring' lines'
+      → came_of (Ok came) ws' ring' [] lines' ≡ serving ws ring input base last lines
+  unfolding serving
+  serving-window came e h = begins ws ring lines [] e (rw (h.keeps, h.rings, h.text, h.place, h.long, h.stopped) refl)
 
-pub serving-barred : (ws ring input : List ℕ) (base : ℕ) (last : Bool) (lines : List ℕ) {bar : ℕ} → bar ≡ barred_by ws (length ring) (length lines)
-    → 0 < bar → as_it_was bar ws ring [] lines ≡ serving ws ring input base last lines
-unfolding serving
-serving-barred ws ring input base last lines e h = barred-keeps ws ring lines e [] _ h
+  pub serving-barred : {why : Why} → Err why ≡ barred_by ws (length ring) (length lines)
+      → came_of (Err why) ws ring [] lines ≡ serving ws ring input base last lines
+  unfolding serving
+  serving-barred h = barred-keeps ws ring lines [] _ h
 
 -- and a piece
-module _ (ws ring reply input : List ℕ) (base : ℕ) (last : Bool) (lines : List ℕ) {bar : ℕ} (e : bar ≡ barred_by ws (length ring) (length lines)) where
-  pub performing-barred : 0 < bar → as_it_was bar ws ring reply lines ≡ performing ws ring reply input base last lines
+module _ (ws ring reply input : List ℕ) (base : ℕ) (last : Bool) (lines : List ℕ) where
+  pub performing-barred : {why : Why} → Err why ≡ barred_by ws (length ring) (length lines)
+      → turn_of (Err why) ws ring reply lines ≡ performing ws ring reply input base last lines
   unfolding performing
-  performing-barred h = barred-keeps ws ring lines e reply _ h
+  performing-barred h = barred-keeps ws ring lines reply _ h
 
-  says : (p : Piece) {ws' ring' reply' lines' : List ℕ} {number read written : ℕ} {ended : Bool} → read ≡ p.size
-      → Turns p lines 0 number written ended ws' ring' lines'
-      → record {
-        number = number;
-        words = ws';
-        ring = ring';
-        reply = reply';
-        lines = lines';
-        read = read;
-        written = written;
-        ended = ended;
-      }
-      ≡ saying p reply' lines
-  says p e t = rw (t.tells, t.keeps, t.rings, t.puts.stands, e, t.puts.behind ∙ zero-add _, t.stops) refl
+  says : (p : Piece) (turn : Performed) {ws' ring' reply' lines' : List ℕ} → turn.came.read ≡ p.size
+      → Turns p lines 0 (number_of_record turn.outcome) turn.came.written turn.came.ended ws' ring' lines'
+      → turn_of (Ok turn) ws' ring' reply' lines' ≡ saying p reply' lines
+  says p turn e t = rw (t.tells, t.keeps, t.rings, t.puts.stands, e, t.puts.behind ∙ zero-add _, t.stops) refl
 
-  pub performing-one : {ws' ring' reply' lines' : List ℕ} {number read written : ℕ} {ended : Bool} → bar ≤ 0
-      → read ≡ 0 + (piece (length reply) (base + 0) last (box_in ws ring) input).size
-      → Turns (piece (length reply) (base + 0) last (box_in ws ring) input) lines 0 number written ended ws' ring' lines'
+  pub performing-one : (turn : Performed) {ws' ring' reply' lines' : List ℕ} {u : ⊤} → Ok u ≡ barred_by ws (length ring) (length lines)
+      → turn.came.read ≡ 0 + (piece (length reply) (base + 0) last (box_in ws ring) input).size
+      → Turns (piece (length reply) (base + 0) last (box_in ws ring) input) lines 0 (number_of_record turn.outcome) turn.came.written turn.came.ended
+      ws' ring' lines'
       → reply' ≡ replied_in (hears input) (box_in ws ring) reply
-      → record {
-        number = number;
-        words = ws';
-        ring = ring';
-        reply = reply';
-        lines = lines';
-        read = read;
-        written = written;
-        ended = ended;
-      }
-      ≡ performing ws ring reply input base last lines
+      → turn_of (Ok turn) ws' ring' reply' lines' ≡ performing ws ring reply input base last lines
   unfolding performing
-  performing-one {reply' = reply'} f g t y =
-      begins ws ring lines e reply f
-      (says (piece (length reply) (base + 0) last (box_in ws ring) input) (g ∙ zero-add _) t
+  performing-one turn {reply' = reply'} f g t y =
+      begins ws ring lines reply f
+      (says (piece (length reply) (base + 0) last (box_in ws ring) input) turn (g ∙ zero-add _) t
       ∙ ap (λ (n : ℕ). saying (piece (length reply) n last (box_in ws ring) input) reply' lines) (add-zero base)
       ∙ ap (λ (z : List ℕ). saying (piece (length reply) base last (box_in ws ring) input) z lines) y)

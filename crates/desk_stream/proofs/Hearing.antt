@@ -3,17 +3,16 @@ use Rattle.std.proofs.Common.{◌≡◌, ℕ, ◌+◌, ◌<◌, ◌≤◌, false
 use lib.ListN.{get_or-append}
 use lib.Seq.{drop-append-le, take-append-le}
 use Rattle.answers.specs.declared.Request.{Request}
-use Rattle.desk_records.specs.declared.Front.{Front}
-use Rattle.desk_records.specs.declared.Reading.{Reading}
+use Rattle.std.specs.Prelude.{Option, Some, None, Ok, Err}
+use Rattle.desk_records.specs.declared.Bad.{Bad}
 use Rattle.desk_records.specs.declared.Hearing.{Hearing}
 use Rattle.desk_records.specs.Hearing.{hear_at}
 use Rattle.desk_kinds.specs.Numbers.{big_endian}
 use Rattle.desk_records.proofs.Stands.{stands, whole}
-use Rattle.desk_records.specs.Reading.{second_mark, length_width, length_at, length_in, head_of, front, placed, read_with, cut, part_of}
+use Rattle.desk_records.specs.Reading.{second_mark, length_width, length_at, length_in, head_of, Front, whole_of, front, placed, read_with, cut, part_of}
 use Rattle.desk_records.proofs.Stable.{front-stable}
 use Rattle.desk_records.proofs.Admits.{front-inside, whole-at, read-places}
 use Rattle.desk_records.proofs.Heard.{heard-record, heard-none}
-use Rattle.desk_kinds.specs.declared.Asking.{Asking}
 use Rattle.desk_kinds.specs.Kinds.{asking_of, given_of}
 use Rattle.desk_stream.specs.Desk.{calling, wrong, hears_as, hears_in, payload_of, hears}
 
@@ -30,11 +29,12 @@ same-payload s t n h =
     ∙ take-append-le n (drop (head_of length_width) s) t (omega (arith, length-drop (head_of length_width) s))
 
 stays : (s t : List ℕ) (f : Front) → fronted s ≡ f → fronted (s ++ t) ≡ f → hears (s ++ t) ≡ hears s
-stays s t (Front.Whole k n) e g =
-    heard-front (s ++ t) (Front.Whole k n) g
-    ∙ ap (λ (p : List ℕ). hears_as k p (head_of length_width + n) (asking_of k p)) (same-payload s t n (front-inside second_mark length_width s e))
-    ∙ sym (heard-front s (Front.Whole k n) e)
-stays s t (Front.Wrong fault i) e g = heard-front (s ++ t) (Front.Wrong fault i) g ∙ sym (heard-front s (Front.Wrong fault i) e)
+stays s t (Ok f) e g =
+    heard-front (s ++ t) (Ok f) g
+    ∙ ap (λ (p : List ℕ). hears_as f.kind p (head_of length_width + f.len) (asking_of f.kind p))
+    (same-payload s t f.len (front-inside second_mark length_width s e))
+    ∙ sym (heard-front s (Ok f) e)
+stays s t (Err x) e g = heard-front (s ++ t) (Err x) g ∙ sym (heard-front s (Err x) e)
 
 pub heard-stable : (s t : List ℕ) → cut (fronted s) ≡ false → hears (s ++ t) ≡ hears s
 heard-stable s t c = stays s t (fronted s) refl (front-stable second_mark length_width s t c)
@@ -47,22 +47,22 @@ pub record Whole (s : List ℕ) (size : ℕ) : Type 0 where
 
 asks-whole : (s : List ℕ) (f : Front) {k : ℕ} {q : Request} {given : List ℕ} {size : ℕ} → fronted s ≡ f → hears_in s f ≡ calling k q given size
     → Whole s size
-asks-whole s (Front.Whole k n) e h = go (asking_of k (payload_of s n)) h
+asks-whole s (Ok f) e h = go (asking_of f.kind (payload_of s f.len)) h
   where
-    go : (a : Asking) {j : ℕ} {q : Request} {given : List ℕ} {size : ℕ}
-        → hears_as k (payload_of s n) (head_of length_width + n) a ≡ calling j q given size → Whole s size
-    go (Asking.Asks r) {j} {q} {given} {size} h =
-        let long : head_of length_width + n ≡ size = cc in
+    go : (a : Option Request) {j : ℕ} {q : Request} {given : List ℕ} {size : ℕ}
+        → hears_as f.kind (payload_of s f.len) (head_of length_width + f.len) a ≡ calling j q given size → Whole s size
+    go (Some r) {j} {q} {given} {size} h =
+        let long : head_of length_width + f.len ≡ size = cc in
         record { uncut = ap cut e; some = omega arith; inside = omega (arith, front-inside second_mark length_width s e) }
-    go Asking.Unlisted h = let z : ◌≡◌ {A = ℕ} 0 1 = cc in absurd (omega arith)
-asks-whole s (Front.Wrong fault i) e h = let z : ◌≡◌ {A = ℕ} 0 1 = cc in absurd (omega arith)
+    go None h = let z : ◌≡◌ {A = ℕ} 0 1 = cc in absurd (omega arith)
+asks-whole s (Err x) e h = let z : ◌≡◌ {A = ℕ} 0 1 = cc in absurd (omega arith)
 
 pub heard-whole : (s : List ℕ) {k : ℕ} {q : Request} {given : List ℕ} {size : ℕ} → hears s ≡ calling k q given size → Whole s size
 heard-whole s h = asks-whole s (fronted s) refl (sym (heard-front s (fronted s) refl) ∙ h)
 
 -- ---- of the bytes behind it a record knows nothing
 module _ (u v : List ℕ) where
-  whole-alone : {k n : ℕ} → fronted (u ++ v) ≡ Front.Whole k n → head_of length_width + n ≤ length u → fronted u ≡ Front.Whole k n
+  whole-alone : {k n : ℕ} → fronted (u ++ v) ≡ whole_of k n → head_of length_width + n ≤ length u → fronted u ≡ whole_of k n
   unfolding big_endian
   whole-alone {k} {n} e h =
       let t = stands e in
@@ -80,15 +80,15 @@ module _ (u v : List ℕ) where
 
   uncut-alone : (f : Front) {k size : ℕ} {q : Request} {given : List ℕ} → fronted (u ++ v) ≡ f → hears_in (u ++ v) f ≡ calling k q given size
       → size ≤ length u → cut (fronted u) ≡ false
-  uncut-alone (Front.Whole k n) e h l = go (asking_of k (payload_of (u ++ v) n)) h l
+  uncut-alone (Ok f) e h l = go (asking_of f.kind (payload_of (u ++ v) f.len)) h l
     where
-      go : (a : Asking) {j size : ℕ} {q : Request} {given : List ℕ}
-          → hears_as k (payload_of (u ++ v) n) (head_of length_width + n) a ≡ calling j q given size → size ≤ length u → cut (fronted u) ≡ false
-      go (Asking.Asks r) {j} {size} h l =
-          let long : head_of length_width + n ≡ size = cc in
-          ap cut (whole-alone e (omega (arith, long)))
-      go Asking.Unlisted h l = let z : ◌≡◌ {A = ℕ} 0 1 = cc in absurd (omega arith)
-  uncut-alone (Front.Wrong fault i) e h l = let z : ◌≡◌ {A = ℕ} 0 1 = cc in absurd (omega arith)
+      go : (a : Option Request) {j size : ℕ} {q : Request} {given : List ℕ}
+          → hears_as f.kind (payload_of (u ++ v) f.len) (head_of length_width + f.len) a ≡ calling j q given size → size ≤ length u → cut (fronted u) ≡ false
+      go (Some r) {j} {size} h l =
+          let long : head_of length_width + f.len ≡ size = cc in
+          ap cut (whole-alone {k = f.kind} {n = f.len} e (omega (arith, long)))
+      go None h l = let z : ◌≡◌ {A = ℕ} 0 1 = cc in absurd (omega arith)
+  uncut-alone (Err x) e h l = let z : ◌≡◌ {A = ℕ} 0 1 = cc in absurd (omega arith)
 
   pub heard-alone : {k size : ℕ} {q : Request} {given : List ℕ} → hears (u ++ v) ≡ calling k q given size → size ≤ length u
       → hears u ≡ calling k q given size
@@ -98,20 +98,22 @@ module _ (u v : List ℕ) where
 -- ---- by what reading at a place answered
 module _ (s : List ℕ) (at : ℕ) where
   -- a record and what it asks
-  pub heard-asking : {k start n next : ℕ} {q : Request} → hear_at s at ≡ Hearing.Record k q start n next
-      → hears (drop at s) ≡ calling k q (given_of k (part_of s start n)) (head_of length_width + n)
-  heard-asking {k} {start} {n} h =
-      let e = (heard-record s at h).0 in
-      heard-front (drop at s) (Front.Whole k n) (whole-at second_mark length_width s at e)
-      ∙ ap (λ (p : List ℕ). hears_as k p (head_of length_width + n) (asking_of k p)) (sym (read-places s at e).4)
-      ∙ ap (hears_as k (part_of s start n) (head_of length_width + n)) (heard-record s at h).1
+  pub heard-asking : {h : Hearing} → hear_at s at ≡ Ok h
+      → hears (drop at s)
+      ≡ calling h.found.kind h.request (given_of h.found.kind (part_of s h.found.start h.found.len)) (head_of length_width + h.found.len)
+  heard-asking {h} x =
+      let f = h.found in
+      let e = (heard-record s at x).0 in
+      heard-front (drop at s) (whole_of f.kind f.len) (whole-at second_mark length_width s at e)
+      ∙ ap (λ (p : List ℕ). hears_as f.kind p (head_of length_width + f.len) (asking_of f.kind p)) (sym (read-places s at e).4)
+      ∙ ap (hears_as f.kind (part_of s f.start f.len) (head_of length_width + f.len)) (heard-record s at x).1
 
-  unread : (f : Front) {place : ℕ} → fronted (drop at s) ≡ f → placed length_width at f ≡ Reading.Bad place → hears (drop at s) ≡ wrong
+  unread : (f : Front) {b : Bad} → fronted (drop at s) ≡ f → placed length_width at f ≡ Err b → hears (drop at s) ≡ wrong
   unfolding placed
-  unread (Front.Whole k n) e h = let z : ◌≡◌ {A = ℕ} 0 1 = cc in absurd (omega arith)
-  unread (Front.Wrong fault i) e h = heard-front (drop at s) (Front.Wrong fault i) e
+  unread (Ok f) e h = let z : ◌≡◌ {A = ℕ} 0 1 = cc in absurd (omega arith)
+  unread (Err x) e h = heard-front (drop at s) (Err x) e
 
   -- or nothing that reads
-  pub heard-bad : {place : ℕ} → hear_at s at ≡ Hearing.Bad place → hears (drop at s) ≡ wrong
+  pub heard-bad : {b : Bad} → hear_at s at ≡ Err b → hears (drop at s) ≡ wrong
   unfolding read_with
   heard-bad h = unread (fronted (drop at s)) refl (heard-none s at h)

@@ -9,3 +9,4 @@ pub mod Answered
 pub mod Serving
 pub mod Boxing
 pub mod Progress
+pub mod Settled

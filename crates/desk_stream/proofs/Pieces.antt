@@ -6,6 +6,7 @@ use Rattle.rules.specs.Calls.{State}
 use Rattle.rules.specs.Machine.{step}
 use Rattle.answers.specs.declared.Request.{Request}
 use Rattle.answers.specs.Asked.{asked, replied}
+use Rattle.std.specs.Prelude.{Ok}
 use Rattle.desk_records.specs.declared.Hearing.{Hearing}
 use Rattle.desk_records.specs.Hearing.{hear_at}
 use Rattle.desk_records.specs.Reading.{head_of, length_width, part_of}
@@ -116,15 +117,21 @@ module _ (at : ℕ) (last : Bool) (box : State) (s : List ℕ) where
   unheard-size h room = ap (λ (x : Piece). x.size) (piece_is room wrong h) ∙ unheard-empty
 
 -- ---- a record heard, and its piece
-module _ (s : List ℕ) (at : ℕ) {k start n place : ℕ} {q : Request} (h : hear_at s at ≡ Hearing.Record k q start n place) (body : List ℕ)
-    (eb : body ≡ part_of s start n) (given : List ℕ) (eg : given ≡ given_of k body) where
+module _ (s : List ℕ) (at : ℕ) (heard : Hearing) (h : hear_at s at ≡ Ok heard) (body : List ℕ)
+    (eb : body ≡ part_of s heard.found.start heard.found.len) (given : List ℕ) (eg : given ≡ given_of heard.found.kind body) where
+  abbrev k : ℕ
+  k = heard.found.kind
+
+  abbrev q : Request
+  q = heard.request
+
   abbrev long : ℕ
-  long = head_of length_width + n
+  long = head_of length_width + heard.found.len
 
   pub asked-hears : hears (drop at s) ≡ calling k q given long
   asked-hears = heard-asking s at h ∙ ap (λ (g : List ℕ). calling k q g long) (sym (eg ∙ ap (given_of k) eb))
 
-  pub asked-place : (room offset : ℕ) (last : Bool) (box : State) {read : ℕ} → read ≡ place → read ≡ at + (piece room offset last box (drop at s)).size
+  pub asked-place : (room offset : ℕ) (last : Bool) (box : State) {read : ℕ} → read ≡ heard.found.next → read ≡ at + (piece room offset last box (drop at s)).size
   asked-place room offset last box e =
       let size : (piece room offset last box (drop at s)).size ≡ long =
       ap (λ (x : Piece). x.size) (piece_is offset last box (drop at s) room (calling k q given long) asked-hears) in

@@ -4,9 +4,8 @@ use mathlib.Core.Bool.{false≢true}
 use Rattle.rules.specs.Calls.{State}
 use Rattle.rules.specs.Machine.{step}
 use Rattle.desk_records.specs.declared.Fault.{Fault}
-use Rattle.desk_records.specs.declared.Front.{Front}
 use Rattle.desk_kinds.specs.Kinds.{limits_of, is_listed, within}
-use Rattle.desk_records.specs.Reading.{first_mark, second_mark, length_width, length_at, head_of, length_in, expect, sized, front, cut}
+use Rattle.desk_records.specs.Reading.{first_mark, second_mark, length_width, length_at, head_of, length_in, Front, whole_of, wrong_at, expect, sized, front, cut}
 use Rattle.desk_kinds.proofs.Entries.{listed-short}
 use Rattle.desk_line.specs.Line.{line_room}
 use Rattle.desk_stream.specs.Desk.{Heard, calling, wrong, hears, desk_call}
@@ -16,12 +15,12 @@ use Rattle.desk_stream.proofs.Answered.{window-rests}
 use Rattle.desk_stream.proofs.Hearing.{fronted, heard-whole}
 
 -- bytes that are there are no cut, whatever they are
-there : (s : List ℕ) (i w : ℕ) (ok : Bool) (fault : Fault) (rest : Front) → i + w ≤ length s → cut (Front.Wrong fault i) ≡ false
+there : (s : List ℕ) (i w : ℕ) (ok : Bool) (fault : Fault) (rest : Front) → i + w ≤ length s → cut (wrong_at fault i) ≡ false
     → (ok ≡ true → cut rest ≡ false) → cut (expect s i w ok fault rest) ≡ false
 there s i w ok fault rest h f g =
-    ap (λ (b : Bool). cut (cond b (cond ok rest (Front.Wrong fault i)) (Front.Wrong Fault.Cut (length s)))) (le-leb _ _ h) ∙ go ok g
+    ap (λ (b : Bool). cut (cond b (cond ok rest (wrong_at fault i)) (wrong_at Fault.Cut (length s)))) (le-leb _ _ h) ∙ go ok g
   where
-    go : (b : Bool) → (b ≡ true → cut rest ≡ false) → cut (cond b rest (Front.Wrong fault i)) ≡ false
+    go : (b : Bool) → (b ≡ true → cut rest ≡ false) → cut (cond b rest (wrong_at fault i)) ≡ false
     go true k = k refl
     go false k = f
 
@@ -29,8 +28,8 @@ sized-uncut : (k : ℕ) (s : List ℕ) → longest ≤ length s → cut (sized k
 unfolding sized
 sized-uncut k s h =
     let n = length_in length_width s in
-    there s length_at length_width (within (limits_of k) n) Fault.Length (expect s (head_of length_width) n true Fault.Length (Front.Whole k n)) (omega arith) refl
-    (λ e. there s (head_of length_width) n true Fault.Length (Front.Whole k n) (omega (arith, listed-short k n e)) refl (λ _. refl))
+    there s length_at length_width (within (limits_of k) n) Fault.Length (expect s (head_of length_width) n true Fault.Length (whole_of k n)) (omega arith) refl
+    (λ e. there s (head_of length_width) n true Fault.Length (whole_of k n) (omega (arith, listed-short k n e)) refl (λ _. refl))
 
 pub never-cut : (s : List ℕ) → longest ≤ length s → cut (fronted s) ≡ false
 unfolding front

@@ -1,14 +1,15 @@
 -- What a lent reply held before matters to no answer.
-use Rattle.std.proofs.Common.{◌≡◌, ℕ, true, false, List, [], ◌∷◌, length, replicate, sym, refl, ap, ◌∙◌}
+use Rattle.std.proofs.Common.{◌≡◌, ℕ, true, false, List, [], ◌∷◌, length, replicate, sym, refl, ap, ◌∙◌, true≢false}
+use Rattle.std.specs.Prelude.{Some, Result, Ok, Err, ⊤, is_ok, MatchResult}
 use lib.ListN.{length-replicate}
 use Rattle.rules.specs.Calls.{Values, State, Outcome, Guard, refuse, leaving, Call}
 use Rattle.rules.specs.Calls.{answer, scan, Fetch}
 use Rattle.rules.specs.Machine.{step, refusals, scan_refusals, effect, scan_effect}
 use Rattle.answers.specs.declared.Request.{Request}
-use Rattle.answers.specs.declared.Answer.{Answer}
-use Rattle.answers.specs.declared.After.{After}
+use Rattle.answers.specs.declared.Told.{Told}
+use Rattle.answers.specs.declared.Why.{Why}
 use Rattle.answers.specs.Asked.{asked}
-use Rattle.answers.specs.Told.{number_told, values_told, state_of}
+use Rattle.answers.specs.Told.{Answer, After, number_told, values_told, state_of}
 use Rattle.answers.proofs.Lending.{Lending, fetches, lends_none, lending, told-beside}
 use Rattle.rules.specs.declared.Record.{Record}
 use Rattle.rules.proofs.Theorems.{step-sound}
@@ -21,7 +22,15 @@ use Rattle.desk_text.proofs.Putting.{moved}
 use Rattle.desk_line.specs.Line.{line_of}
 use Rattle.desk_stream.specs.Desk.{call_with}
 use Rattle.desk_stream.specs.Window.{answered_by}
+use Rattle.desk_stream.specs.Boxed.{number_of_record}
 use Rattle.desk_stream.specs.Held.{Turns}
+
+-- what a call's acceptance reports is left out of what is told of its record: the number stays
+pub number-stays : (a : Answer) (o : Result ⊤ Why) (P : Told → Type 0) → MatchResult a P (λ (w : Why). o ≡ Err w) → is_ok o ≡ is_ok a
+    → number_of_record (Some o) ≡ number_told a
+number-stays (Ok told) (Ok u) P m e = refl
+number-stays (Ok told) (Err why) P m e = absurd (true≢false (sym e))
+number-stays (Err why) o P m e = ap (λ (r : Result ⊤ Why). number_of_record (Some r)) m
 
 -- an outcome but for the reply
 pub record Bare : Type 0 where
@@ -87,14 +96,14 @@ module _ (q : Request) (given ws ring reply : List ℕ) {a : Answer} {ws' ring' 
       boxed ws' (length ring') w.does.fits
       (rw (left, ap (λ (x : Outcome). x.state.bytes) w.does.told) (step-sound s (asked q given reply) (box-sound ws (length ring) box)))
 
-  pub answered-turn : (kind : ℕ) {next : Record} {number written filled : ℕ} {out out' : List ℕ} → (all_fit ws' ≡ true → next ≡ recorded ws')
-      → number ≡ number_told a
+  pub answered-turn : (kind : ℕ) {next : Record} {number shown written filled : ℕ} {out out' : List ℕ} → (all_fit ws' ≡ true → next ≡ recorded ws')
+      → number ≡ number_told a → shown ≡ number_told a
       → Puts out filled (line_of kind number (values_told next reply' a) next) written out'
-      → Turns (answered_by kind (step s (call_with (length reply) q given)) 0) out filled number written false ws' ring' out'
-  answered-turn kind {next} {number} ld f p =
+      → Turns (answered_by kind (step s (call_with (length reply) q given)) 0) out filled shown written false ws' ring' out'
+  answered-turn kind {next} {number} ld f g p =
       let same : next ≡ o.state.box = ld w.does.fits ∙ left in
       record {
-        tells = f ∙ ap (λ (b : Bare). b.number) told;
+        tells = g ∙ ap (λ (b : Bare). b.number) told;
         stops = refl;
         puts =
             moved p

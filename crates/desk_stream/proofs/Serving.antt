@@ -22,7 +22,7 @@ or-false false = refl
 abbrev come : List ℕ → List ℕ → ℕ → List ℕ → Progress
 come ws ring at text = record { box = state_of (recorded ws) ring; place = at; text = text; ended = false }
 
-pub record Serving (s : List ℕ) (base : ℕ) (last : Bool) (ws₀ ring₀ reply₀ out₀ ws ring reply out : List ℕ) (at filled : ℕ) : Type 0 where
+pub record Serving (s : List ℕ) (base : ℕ) (last : Bool) (ws₀ ring₀ reply₀ out₀ ws ring reply out : List ℕ) (at filled : ℕ) (ended : Bool) : Type 0 where
   pub text : List ℕ
   pub so : served base last (length out₀) 0 (outset (state_of (recorded ws₀) ring₀)) s ≡ served base last (length out₀) 0 (come ws ring at text) (drop at s)
   pub puts : Puts out₀ 0 text filled out
@@ -34,10 +34,11 @@ pub record Serving (s : List ℕ) (base : ℕ) (last : Bool) (ws₀ ring₀ repl
   pub lends : length reply ≡ reply_room
   pub box : is_box ws (length ring) ≡ true
   pub keeps : ws ≡ kept (recorded ws)
+  pub unended : ended ≡ false
 
 module _ {s : List ℕ} {base : ℕ} {last : Bool} {ws₀ ring₀ reply₀ out₀ : List ℕ} where
   pub serving-begins : length reply₀ ≡ reply_room → is_box ws₀ (length ring₀) ≡ true → length ws₀ ≡ word_count
-      → Serving s base last ws₀ ring₀ reply₀ out₀ ws₀ ring₀ reply₀ out₀ 0 0
+      → Serving s base last ws₀ ring₀ reply₀ out₀ ws₀ ring₀ reply₀ out₀ 0 0 false
   serving-begins e b l =
       record {
         text = [];
@@ -51,9 +52,11 @@ module _ {s : List ℕ} {base : ℕ} {last : Bool} {ws₀ ring₀ reply₀ out�
         lends = e;
         box = b;
         keeps = sym (kept-recorded ws₀ l (box-fits ws₀ (length ring₀) b));
+        unended = refl;
       }
 
-  module _ {ws ring reply out : List ℕ} {at filled : ℕ} (here : Serving s base last ws₀ ring₀ reply₀ out₀ ws ring reply out at filled) where
+  module _ {ws ring reply out : List ℕ} {at filled : ℕ} {end : Bool}
+      (here : Serving s base last ws₀ ring₀ reply₀ out₀ ws ring reply out at filled end) where
     abbrev whole : Progress
     whole = served base last (length out₀) 0 (outset (state_of (recorded ws₀) ring₀)) s
 
@@ -70,12 +73,11 @@ module _ {s : List ℕ} {base : ℕ} {last : Bool} {ws₀ ring₀ reply₀ out�
     -- a progress in the program's hands
     holds : (p : Progress) → whole ≡ p → {ws' ring' out' : List ℕ} {read written : ℕ} {ended : Bool} → ws' ≡ kept p.box.box
         → ring' ≡ p.box.bytes → read ≡ p.place → ended ≡ p.ended → length p.text ≤ length out₀ → Puts out₀ 0 p.text written out'
-        → p.place ≤ length s → is_box ws' (length ring') ≡ true → Holds whole s out₀ 0 read written ended ws' ring' out'
+        → p.place ≤ length s → is_box ws' (length ring') ≡ true → Holds whole s out₀ read written ended ws' ring' out'
     holds p e {ws'} {ring'} {out'} {read} {written} {ended} w g a f l t i b =
         let room : 0 + length p.text ≤ length out₀ = omega arith in
-        subst (λ (x : Progress). Holds x s out₀ 0 read written ended ws' ring' out') (sym e)
+        subst (λ (x : Progress). Holds x s out₀ read written ended ws' ring' out') (sym e)
         (record {
-          tells = refl;
           keeps = w;
           rings = g;
           place = a;
@@ -88,13 +90,13 @@ module _ {s : List ℕ} {base : ℕ} {last : Bool} {ws₀ ring₀ reply₀ out�
         })
 
     -- nothing more is served
-    stays : whole ≡ come-here → Holds whole s out₀ 0 at filled false ws ring out
-    stays e = holds come-here e here.keeps refl refl refl here.fits here.puts here.inside here.box
+    stays : whole ≡ come-here → Holds whole s out₀ at filled end ws ring out
+    stays e = holds come-here e here.keeps refl refl here.unended here.fits here.puts here.inside here.box
 
-    pub serving-full : {b : Bool} → b ≡ leb (filled + line_room) (length out) → not b ≡ true → Holds whole s out₀ 0 at filled false ws ring out
+    pub serving-full : {b : Bool} → b ≡ leb (filled + line_room) (length out) → not b ≡ true → Holds whole s out₀ at filled end ws ring out
     serving-full {b} e f = stays (here.so ∙ no_room base last (length out₀) come-here (drop at s) (tested e ∙ not-true b f))
 
-    pub serving-over : length s ≤ at → Holds whole s out₀ 0 at filled false ws ring out
+    pub serving-over : length s ≤ at → Holds whole s out₀ at filled end ws ring out
     serving-over h = stays (here.so ∙ at-end base last (length out₀) come-here (drop at s) (omega (arith, length-drop at s)))
 
     module _ {b : Bool} (more : at < length s) (e : b ≡ leb (filled + line_room) (length out)) (f : not b ≡ false)
@@ -131,11 +133,11 @@ module _ {s : List ℕ} {base : ℕ} {last : Bool} {ws₀ ring₀ reply₀ out�
       reaches : at + p.size ≤ length s
       reaches = omega (arith, piece_inside (base + at) last (state_of (recorded ws) ring) (drop at s) reply_room, length-drop at s)
 
-      pub serving-stops : read ≡ at → Holds whole s out₀ 0 at written ended ws' ring' out'
+      pub serving-stops : read ≡ at → Holds whole s out₀ read written ended ws' ring' out'
       serving-stops r =
           let none : p.size ≡ 0 = omega (arith, stepped, r) in
           holds (took come-here p) (here.so ∙ stops_at base last (length out₀) come-here (drop at s) some room-left none)
-          turned.keeps turned.rings (sym r ∙ stepped) (turned.stops ∙ sym (or-false p.ended)) short
+          turned.keeps turned.rings stepped (turned.stops ∙ sym (or-false p.ended)) short
           (then here.puts turned.puts) reaches turned.box
 
       module _ (r : read ≡ at → ⊥) where
@@ -156,11 +158,11 @@ module _ {s : List ℕ} {base : ℕ} {last : Bool} {ws₀ ring₀ reply₀ out�
             rw (box, turned.rings) refl
 
         pub serving-again : {reply' : List ℕ} → length ring' ≡ length ring → length reply' ≡ length reply
-            → Serving s base last ws₀ ring₀ reply₀ out₀ ws' ring' reply' out' read written
+            → Serving s base last ws₀ ring₀ reply₀ out₀ ws' ring' reply' out' read written ended
         serving-again el em =
             let text' : List ℕ = here.text ++ p.text in
-            let unended : p.ended || false ≡ false =
-            or-false p.ended ∙ piece-goes (base + at) last (state_of (recorded ws) ring) (drop at s) reply_room goes in
+            let goes-on : p.ended ≡ false = piece-goes (base + at) last (state_of (recorded ws) ring) (drop at s) reply_room goes in
+            let unended : p.ended || false ≡ false = or-false p.ended ∙ goes-on in
             record {
               text = text';
               so =
@@ -181,4 +183,5 @@ module _ {s : List ℕ} {base : ℕ} {last : Bool} {ws₀ ring₀ reply₀ out�
               lends = em ∙ here.lends;
               box = turned.box;
               keeps = turned.keeps ∙ ap (λ (x : State). kept x.box) left;
+              unended = turned.stops ∙ goes-on;
             }

@@ -1,13 +1,11 @@
 -- What the desk prints for its whole input: a line for each record, then the bad line if there is one.
-use Rattle.std.specs.Prelude.{ℕ, zero, suc, ◌+◌, ◌-◌, ◌%◌, ◌^◌, List, [], ◌∷◌, ◌++◌, take, drop, replicate}
+use Rattle.std.specs.Prelude.{ℕ, zero, suc, ◌+◌, ◌-◌, ◌%◌, ◌^◌, Option, Some, None, Ok, Err, List, [], ◌∷◌, ◌++◌, take, drop, replicate}
 use Rattle.rules.specs.Calls.{Call, State, Outcome}
 use Rattle.rules.specs.Machine.{run, start}
 use Rattle.answers.specs.declared.Request.{Request}
 use Rattle.answers.specs.Asked.{asked}
 use Rattle.desk_text.specs.Digits.{decimal}
-use Rattle.desk_records.specs.declared.Front.{Front}
-use Rattle.desk_records.specs.Reading.{second_mark, length_width, head_of, front}
-use Rattle.desk_kinds.specs.declared.Asking.{Asking}
+use Rattle.desk_records.specs.Reading.{second_mark, length_width, head_of, Front, front}
 use Rattle.desk_kinds.specs.Kinds.{asking_of, given_of}
 use Rattle.desk_line.specs.Line.{line_for}
 
@@ -17,16 +15,16 @@ pub data Heard : Type 0 where
   calling : ℕ → Request → List ℕ → ℕ → Heard
   wrong : Heard
 
-abbrev pub hears_as : ℕ → List ℕ → ℕ → Asking → Heard
-hears_as k p size (Asking.Asks q) = calling k q (given_of k p) size
-hears_as k p size Asking.Unlisted = wrong
+abbrev pub hears_as : ℕ → List ℕ → ℕ → Option Request → Heard
+hears_as k p size (Some q) = calling k q (given_of k p) size
+hears_as k p size None = wrong
 
 abbrev pub payload_of : List ℕ → ℕ → List ℕ
 payload_of s n = take n (drop (head_of length_width) s)
 
 abbrev pub hears_in : List ℕ → Front → Heard
-hears_in s (Front.Whole k n) = hears_as k (payload_of s n) (head_of length_width + n) (asking_of k (payload_of s n))
-hears_in s (Front.Wrong fault i) = wrong
+hears_in s (Ok f) = hears_as f.kind (payload_of s f.len) (head_of length_width + f.len) (asking_of f.kind (payload_of s f.len))
+hears_in s (Err e) = wrong
 
 -- what the desk hears at the front of some bytes
 unfoldable pub hears : List ℕ → Heard

@@ -1,14 +1,9 @@
 -- A piece and a window as the code holds them: numbers, ring and lines. No contract of an exported function cites this.
-use Rattle.std.specs.Prelude.{◌≡◌, ℕ, ◌+◌, ◌≤◌, Bool, true, cond, List, length, nat_le}
+use Rattle.std.specs.Prelude.{◌≡◌, ℕ, ◌≤◌, Bool, true, List, length}
 use Rattle.desk_text.specs.Put.{Puts, overlaid}
-use Rattle.desk_line.specs.Line.{line_room}
 use Rattle.stored.specs.Stored.{kept, is_box}
 use Rattle.desk_stream.specs.Window.{Piece, Progress, outset, served}
-use Rattle.desk_stream.specs.Boxed.{box_in, unsound_number, no_room_number}
-
--- why nothing is begun: 604, then 603; else 0
-abbrev pub barred_by : List ℕ → ℕ → ℕ → ℕ
-barred_by ws n room = cond (is_box ws n) (cond (nat_le (0 + line_room) room) 0 no_room_number) unsound_number
+use Rattle.desk_stream.specs.Boxed.{box_in}
 
 -- the piece's text is put, and the box is the one that it leaves
 pub record Turns (p : Piece) (out : List ℕ) (filled number written : ℕ) (ended : Bool) (ws ring out' : List ℕ) : Type 0 where
@@ -20,8 +15,7 @@ pub record Turns (p : Piece) (out : List ℕ) (filled number written : ℕ) (end
   pub box : is_box ws (length ring) ≡ true
 
 -- the window's progress: the text stands at the front of the lines
-pub record Holds (p : Progress) (window out : List ℕ) (number read written : ℕ) (ended : Bool) (ws ring out' : List ℕ) : Type 0 where
-  pub tells : number ≡ 0
+pub record Holds (p : Progress) (window out : List ℕ) (read written : ℕ) (ended : Bool) (ws ring out' : List ℕ) : Type 0 where
   pub keeps : ws ≡ kept p.box.box
   pub rings : ring ≡ p.box.bytes
   pub place : read ≡ p.place
@@ -32,6 +26,6 @@ pub record Holds (p : Progress) (window out : List ℕ) (number read written : �
   pub fits : written ≤ length out'
   pub box : is_box ws (length ring) ≡ true
 
-abbrev pub Serves : ℕ → Bool → List ℕ → List ℕ → List ℕ → List ℕ → ℕ → ℕ → ℕ → Bool → List ℕ → List ℕ → List ℕ → Type 0
-Serves base last ws ring s out number read written ended ws' ring' out' =
-    Holds (served base last (length out) 0 (outset (box_in ws ring)) s) s out number read written ended ws' ring' out'
+abbrev pub Serves : ℕ → Bool → List ℕ → List ℕ → List ℕ → List ℕ → ℕ → ℕ → Bool → List ℕ → List ℕ → List ℕ → Type 0
+Serves base last ws ring s out read written ended ws' ring' out' =
+    Holds (served base last (length out) 0 (outset (box_in ws ring)) s) s out read written ended ws' ring' out'

@@ -2,41 +2,39 @@
 // record, and found there as they are left.
 #![tactic(auto)]
 
-ghost use Rattle.std.specs.Prelude.{◌≡◌, ◌+◌, ◌≤◌, true, false, not, [], length, drop, if◌then◌else◌};
+ghost use Rattle.std.specs.Prelude.{◌≡◌, ◌+◌, ◌≤◌, true, not, [], length, drop, IfOk, is_err, if◌then◌else◌};
 ghost use Rattle.rules.specs.Machine.{step};
 ghost use Rattle.answers.specs.Asked.{asked, replied};
 ghost use Rattle.desk_text.specs.Put.{Puts};
 ghost use Rattle.desk_line.specs.Line.{line_room};
 ghost use Rattle.stored.specs.Stored.{is_box};
 ghost use Rattle.desk_stream.specs.Desk.{reply_room, hears, call_with, bad_line, bad_text};
-ghost use Rattle.desk_stream.specs.Window.{no_record, waits, answered_by, piece, replied_in};
-ghost use Rattle.desk_stream.specs.Held.{barred_by, Turns, Serves};
-ghost use Rattle.desk_stream.specs.Boxed.{box_in, serving, performing};
+ghost use Rattle.desk_stream.specs.Window.{waits, answered_by, piece, replied_in};
+ghost use Rattle.desk_stream.specs.Held.{Turns, Serves};
+ghost use Rattle.desk_stream.specs.Boxed.{box_in, barred_by, number_of_record, came_of, turn_of, serving, performing};
 
-use answers::Request;
-use desk_records::Hearing;
+use answers::{Request, Why};
+use desk_records::Found;
 use stored::WORDS;
 
 // The reply that serves all fetches of a window.
 const REPLY_ROOM: usize = 259;
 
-// The number for numbers that are no box.
-pub const UNSOUND: u16 = 604;
-
-// The number where the lines have less room than one may take.
-const NO_ROOM: u16 = 603;
-
-// The number where no record reads: none of the paper's, and not acceptance.
-const NO_RECORD: u16 = 0xFFFF;
-
-// What came of a record, or of a window of them: the number, how far the input is read, how much text stands in the lines, and
-// whether a bad record was met.
+// What came of a window: how far it is read, how much text stands in the lines, and whether a bad record was met, which is C's third
+// number of progress.
 #[derive(Clone, Copy)]
 pub struct Came {
-    pub number: u16,
     pub read: usize,
     pub written: usize,
     pub ended: bool,
+}
+
+// What came of one record: whether it is accepted, or why it is refused; none where no record reads. What an acceptance reports
+// stands in the line.
+#[derive(Clone, Copy)]
+pub struct Performed {
+    pub outcome: Option<Result<(), Why>>,
+    pub came: Came,
 }
 
 fn put_bad(out: &mut [u8], at: usize, offset: u64) -> usize
@@ -48,26 +46,25 @@ fn put_bad(out: &mut [u8], at: usize, offset: u64) -> usize
 }
 
 // ---- one record's piece of the input
+// What is lent goes name by name: a struct of it would be made for one call and taken apart in it, as each clause speaks of one. That
+// the numbers are a box is a `requires` and no type, since a host lends any.
+
 // Where no record reads: a cut one waits for more input, if more may come; any other is bad.
 fn stop(s: &[u8], at: usize, base: u64, last: bool, out: &mut [u8], filled: usize) -> Came
-    ensures number_value { result.number ≡ no_record }
-    ensures read_value { result.read ≡ at }
-    ensures ended_value { result.ended ≡ not (waits last (drop at s.now)) }
-    ensures puts { Puts out.old filled (if waits last (drop at s.now) then [] else bad_text (base + at)) result.written out.new }
+    ensures place { result.read ≡ at }
+    ensures ended { result.ended ≡ not (waits last (drop at s.now)) }
+    ensures text { Puts out.old filled (if waits last (drop at s.now) then [] else bad_text (base + at)) result.written out.new }
 {
     if desk_records::read::is_cut(s, at) & !last {
         return Came {
-            number: NO_RECORD,
             read: at,
             written: filled,
             ended: false,
         };
     }
-    let end = put_bad(out, filled, std::num::wrapping_add_u64(base, at as u64));
     Came {
-        number: NO_RECORD,
         read: at,
-        written: end,
+        written: put_bad(out, filled, base.wrapping_add(at as u64)),
         ended: true,
     }
 }
@@ -83,26 +80,28 @@ fn answer(
     place: usize,
     out: &mut [u8],
     filled: usize,
-) -> Came
-    requires ring_value { is_box w.old (length ring.old) ≡ true }
-    requires line_room_in_bounds { filled + line_room ≤ length out.old }
-    ensures read_value { result.read ≡ place }
+) -> Performed
+    requires boxed { is_box w.old (length ring.old) ≡ true }
+    requires roomy { filled + line_room ≤ length out.old }
+    ensures place { result.came.read ≡ place }
     ensures turns { Turns (answered_by kind (step (box_in w.old ring.old)
         (call_with (length reply.old) request given.now)) 0)
-        out.old filled result.number result.written result.ended w.new ring.new out.new }
-    ensures reply_after { reply.new
+        out.old filled (number_of_record result.outcome) result.came.written result.came.ended w.new ring.new out.new }
+    ensures lent { reply.new
         ≡ replied (asked request given.now reply.old)
         (step (box_in w.old ring.old) (asked request given.now reply.old)) reply.old }
 {
     let answer = working::perform(w, ring, request, given, reply);
-    let number = answer.number();
+    let number = answers::number(answer);
     let next = stored::load(w);
-    let written = desk_line::put_line(out, filled, kind, number, next, answer, reply);
-    Came {
-        number,
+    let came = Came {
         read: place,
-        written,
+        written: desk_line::put_line(out, filled, kind, number, next, answer, reply),
         ended: false,
+    };
+    Performed {
+        outcome: Some(answer.map(|_| ())),
+        came,
     }
 }
 
@@ -117,34 +116,36 @@ fn turn(
     last: bool,
     out: &mut [u8],
     filled: usize,
-) -> Came
-    requires ring_value { is_box w.old (length ring.old) ≡ true }
-    requires line_room_in_bounds { filled + line_room ≤ length out.old }
-    ensures read_value { result.read
+) -> Performed
+    requires boxed { is_box w.old (length ring.old) ≡ true }
+    requires roomy { filled + line_room ≤ length out.old }
+    ensures place { result.came.read
         ≡ at + (piece (length reply.old) (base + at) last (box_in w.old ring.old) (drop at s.now)).size }
     ensures turns { Turns (piece (length reply.old) (base + at) last (box_in w.old ring.old) (drop at s.now))
-        out.old filled result.number result.written result.ended w.new ring.new out.new }
-    ensures reply_after { reply.new
+        out.old filled (number_of_record result.outcome) result.came.written result.came.ended w.new ring.new out.new }
+    ensures lent { reply.new
         ≡ replied_in (hears (drop at s.now)) (box_in w.old ring.old) reply.old }
 {
-    let hearing = desk_records::read::hear(s, at);
-    let Hearing::Record {
+    let Ok(heard) = desk_records::read::hear(s, at) else {
+        return Performed {
+            outcome: None,
+            came: stop(s, at, base, last, out, filled),
+        };
+    };
+    let Found {
         kind,
-        request,
         start,
         len,
-        next: place,
-    } = hearing
-    else {
-        stored::count(*w);
-        return stop(s, at, base, last, out, filled);
-    };
+        next,
+    } = heard.found;
+    let request = heard.request;
     let body = desk_records::read::payload(s, start, len);
     let given = desk_kinds::payload::given(kind, body);
-    answer(w, ring, reply, kind, request, given, place, out, filled)
+    answer(w, ring, reply, kind, request, given, next, out, filled)
 }
 
 // ---- a window
+// The loop goes by records, and not by an index: a turn tells where the next one begins.
 fn serve_with(
     w: &mut [u64; WORDS],
     ring: &mut [u8],
@@ -154,70 +155,44 @@ fn serve_with(
     last: bool,
     out: &mut [u8],
 ) -> Came
-    requires reply_len { length reply.old ≡ reply_room }
-    requires ring_value { is_box w.old (length ring.old) ≡ true }
-    ensures { Serves base last w.old ring.old s.now out.old
-        result.number result.read result.written result.ended w.new ring.new out.new }
+    requires lent { length reply.old ≡ reply_room }
+    requires boxed { is_box w.old (length ring.old) ≡ true }
+    ensures { Serves base last w.old ring.old s.now out.old result.read result.written result.ended w.new ring.new out.new }
 {
-    stored::count(*w);
-    let mut at: usize = 0;
-    let mut filled: usize = 0;
-    while at < s.len() {
-        if !desk_line::has_room(filled, out.len()) {
-            return Came {
-                number: 0,
-                read: at,
-                written: filled,
-                ended: false,
-            };
-        }
-        let turn = turn(w, ring, reply, s, at, base, last, out, filled);
-        filled = turn.written;
-        if turn.read == at {
-            return Came {
-                number: 0,
-                read: at,
-                written: filled,
-                ended: turn.ended,
-            };
-        }
-        at = turn.read;
-    }
-    Came {
-        number: 0,
-        read: at,
-        written: filled,
-        ended: false,
-    }
-}
-
-// ---- what a host calls
-// Why nothing is begun: 604 where the numbers are no box; then 603 where a line may lack room. Else 0.
-fn barred(w: &[u64; WORDS], length: usize, room: usize) -> u16
-    ensures { result ≡ barred_by w.now length room }
-{
-    if !stored::is_box(w, length) {
-        return UNSOUND;
-    }
-    if !desk_line::has_room(0, room) {
-        return NO_ROOM;
-    }
-    0
-}
-
-fn refused(number: u16) -> Came
-    ensures { result ≡ record { number = number; read = 0; written = 0; ended = false } }
-{
-    Came {
-        number,
+    let mut came = Came {
         read: 0,
         written: 0,
         ended: false,
+    };
+    while came.read < s.len() {
+        if !desk_line::has_room(came.written, out.len()) {
+            return came;
+        }
+        let turn = turn(w, ring, reply, s, came.read, base, last, out, came.written);
+        if turn.came.read == came.read {
+            return turn.came;
+        }
+        came = turn.came;
     }
+    came
+}
+
+// ---- what a host calls
+// Why nothing is begun: the numbers are no box; then a line may lack room.
+fn barred(w: &[u64; WORDS], length: usize, room: usize) -> Result<(), Why>
+    ensures { result ≡ barred_by w.now length room }
+{
+    if !stored::is_box(w, length) {
+        return Err(Why::Unsound);
+    }
+    if !desk_line::has_room(0, room) {
+        return Err(Why::NoRoom);
+    }
+    Ok(())
 }
 
 // Answers the records of a window, each as soon as it is whole and its line has room: the lines go to the front of `out`. `base`
-// is the window's offset in the input; `last` says that no input follows it.
+// is the window's offset in the input; `last` says that no input follows it. A refusal leaves all that is lent as it was.
 pub fn serve(
     w: &mut [u64; WORDS],
     ring: &mut [u8],
@@ -225,32 +200,20 @@ pub fn serve(
     base: u64,
     last: bool,
     out: &mut [u8],
-) -> Came
-    ensures ended_after { record {
-      number = result.number;
-      words = w.new;
-      ring = ring.new;
-      reply = [];
-      lines = out.new;
-      read = result.read;
-      written = result.written;
-      ended = result.ended;
-    }
-        ≡ serving w.old ring.old s.now base last out.old }
-    ensures read_in_bounds { result.read ≤ length s.now }
-    ensures written_in_bounds { result.written ≤ length out.new }
-    ensures ring_unchanged { is_box w.new (length ring.new) ≡ is_box w.old (length ring.old) }
+) -> Result<Came, Why>
+    ensures refused { is_err result ≡ is_err (barred_by w.old (length ring.old) (length out.old)) }
+    ensures served { came_of result w.new ring.new [] out.new ≡ serving w.old ring.old s.now base last out.old }
+    ensures reads_window { IfOk result (λ came. came.read ≤ length s.now) }
+    ensures writes_lines { IfOk result (λ came. came.written ≤ length out.new) }
+    ensures box_stays { is_box w.new (length ring.new) ≡ is_box w.old (length ring.old) }
 {
-    let number = barred(w, ring.len(), out.len());
-    if number > 0 {
-        return refused(number);
-    }
+    barred(w, ring.len(), out.len())?;
     let mut reply = [0; REPLY_ROOM];
-    serve_with(w, ring, &mut reply, s, base, last, out)
+    Ok(serve_with(w, ring, &mut reply, s, base, last, out))
 }
 
 // Answers the record at the front of the input, and puts its line. `last` says that no input follows: a record that is only cut is
-// bad then, and waits otherwise.
+// bad then, and waits otherwise. A refusal leaves all that is lent as it was.
 pub fn perform(
     w: &mut [u64; WORDS],
     ring: &mut [u8],
@@ -259,23 +222,11 @@ pub fn perform(
     offset: u64,
     last: bool,
     out: &mut [u8],
-) -> Came
-    ensures ended_after { record {
-      number = result.number;
-      words = w.new;
-      ring = ring.new;
-      reply = reply.new;
-      lines = out.new;
-      read = result.read;
-      written = result.written;
-      ended = result.ended;
-    }
-        ≡ performing w.old ring.old reply.old s.now offset last out.old }
-    ensures ring_unchanged { is_box w.new (length ring.new) ≡ is_box w.old (length ring.old) }
+) -> Result<Performed, Why>
+    ensures refused { is_err result ≡ is_err (barred_by w.old (length ring.old) (length out.old)) }
+    ensures performed { turn_of result w.new ring.new reply.new out.new ≡ performing w.old ring.old reply.old s.now offset last out.old }
+    ensures box_stays { is_box w.new (length ring.new) ≡ is_box w.old (length ring.old) }
 {
-    let number = barred(w, ring.len(), out.len());
-    if number > 0 {
-        return refused(number);
-    }
-    turn(w, ring, reply, s, 0, offset, last, out, 0)
+    barred(w, ring.len(), out.len())?;
+    Ok(turn(w, ring, reply, s, 0, offset, last, out, 0))
 }

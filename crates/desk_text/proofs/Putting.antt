@@ -1,10 +1,10 @@
 -- Laws of texts put into a buffer as far as there is room: none, one byte, and one text behind another. None has a side condition
 -- on the room, since `over` at a place past the end puts behind the end and a text that does not fit is cut to nothing there.
-use Prim.Native.Nat.{ℕ, zero, suc, ◌+◌, ◌-◌, ◌*◌, ◌/◌, ◌%◌, ◌^◌, ◌<◌, ◌≤◌, min}
+use Prim.Native.Nat.{ℕ, zero, suc, ◌+◌, ◌-◌, ◌*◌, ◌/◌, ◌%◌, ◌^◌, ◌<◌, ◌≤◌}
 use mathlib.Core.Bool.{Bool, true, false, cond}
 use mathlib.Core.Path.{◌≡◌, refl, sym, ap, ap₂, subst, ◌∙◌}
 use mathlib.Core.List.{List, [], ◌∷◌, ◌++◌, append_assoc, append-nil}
-use native.Mathlib.Nat.{add-zero, suc-add, add_assoc, sub-zero, suc-sub-suc, suc-min-suc, zero-add, pow-suc}
+use native.Mathlib.Nat.{add-zero, suc-add, sub-zero, suc-sub-suc, zero-add, pow-suc}
 use native.Mathlib.Numerals.{add-one, sub-one}
 use native.Mathlib.Omega.{arith}
 use borrow.Rule.Slice.PartMut.{put_mid}
@@ -83,9 +83,6 @@ module _ {o o₁ t : List ℕ} {at r : ℕ} where
   pub within : at ≤ length o → Puts o at t r o₁ → r ≤ length o
   within h p = omega (arith, p.behind, length-take (length o - at) t)
 
-  pub before : Puts o at t r o₁ → at ≤ r
-  before p = omega (arith, p.behind)
-
 -- a text, and then another right behind it
 pub then : {o o₁ o₂ t u : List ℕ} {a r q : ℕ} → Puts o a t r o₁ → Puts o₁ r u q o₂ → Puts o a (t ++ u) q o₂
 then {o} {o₁} {o₂} {t} {u} {a} {r} {q} p k =
@@ -117,30 +114,6 @@ put_three o at a b c h =
     let third = put-one-fits (set (set o at a) (at + 1) b) (at + 2) c (simp length-set (omega arith)) in
     let next : at + 2 + 1 ≡ at + 3 = omega arith in
     rw next at (then (put_two o at a b (omega arith)) third)
-
--- ---- bytes, one more in each turn
-pub byte_more : (o o₁ s : List ℕ) (at i n : ℕ) → n ≡ min (length o - at) (length s) → i < n → Puts o at (take i s) (at + i) o₁
-    → Puts o at (take (i + 1) s) (at + (i + 1)) (set o₁ (at + i) (get_or s i 0))
-byte_more o o₁ s at i n e h p =
-    let last = put-one-fits o₁ (at + i) (get_or s i 0) (omega (arith, size p)) in
-    let more : take i s ++ get_or s i 0 ∷ [] ≡ take (i + 1) s = rw (add-one, take-suc s i 0 (omega arith)) in
-    rw (← add_assoc at i 1) (moved (then p last) more)
-
--- as many as there is room for
-clipped : (k : ℕ) (s : List ℕ) → take k (take (min k (length s)) s) ≡ take k s
-clipped zero s = refl
-clipped (suc k) [] = rw take-nil (take-nil (suc k))
-clipped (suc k) (x ∷ s) = rw suc-min-suc (ap (λ (l : List ℕ). x ∷ l) (clipped k s))
-
-pub bytes-all : (o o₁ s : List ℕ) (at i n : ℕ) → n ≡ min (length o - at) (length s) → i ≤ n → n ≤ i → Puts o at (take i s) (at + i) o₁
-    → Puts o at s (at + n) o₁
-bytes-all o o₁ s at i n e l h p =
-    let end : i ≡ min (length o - at) (length s) = omega arith in
-    let same : fitting o at (take i s) ≡ fitting o at s = rw end (clipped (length o - at) s) in
-    record {
-      behind = rw (← same) (omega (arith, p.behind));
-      stands = rw (← same) p.stands;
-    }
 
 -- ---- digits
 one-digit : (m n : ℕ) → 1 ≤ m → n < 10 → last_digits m n ≡ (48 + n) ∷ []
@@ -210,11 +183,8 @@ count (suc m) (suc k) n l h g =
     let rest = count m k (n / 10) (omega arith) (omega arith) (rw (pow-suc 10 k) (omega arith)) in
     rw (more-digits m n (omega arith), length-append) (omega arith)
 
-pub wide-one : (n : ℕ) → n < 10 → 1 ≡ length (decimal n)
-wide-one n h = rw (one-digit most_digits n (omega arith) h)
-
-pub wide : (k n : ℕ) → k < most_digits → 10 ^ k ≤ n → n < 10 ^ suc k → suc k ≡ length (decimal n)
-wide k n l h g = sym (count most_digits k n l h g)
+pub wide : (k n : ℕ) → k < most_digits → 10 ^ k ≤ n → n < 10 * 10 ^ k → k + 1 ≡ length (decimal n)
+wide k n l h g = rw add-one (sym (count most_digits k n l h (rw (pow-suc 10 k) (omega arith))))
 
 -- the digits that are left go before those that stand at the end of the part
 pub record Filling (n : ℕ) (part : List ℕ) (from left : ℕ) : Type 0 where
@@ -239,10 +209,24 @@ filling n part l h =
 set_front : (l : List ℕ) (i b : ℕ) → i < length l → drop i (set l i b) ≡ b ∷ drop (suc i) l
 set_front l i b h = rw (set_split l i b h) (drop_at (take i l) (b ∷ drop (suc i) l) i (length-take-le i l (omega arith)))
 
-pub filling-again : (n from left : ℕ) (part : List ℕ) → Filling n part from left → 9 < left
+-- where one digit is left, its place is the first of the part
+first-left : (n from left : ℕ) (part : List ℕ) → Filling n part from left → left ≤ 9 → from ≡ 1
+first-left n from left part f h =
+    let one = rw (one-digit from left f.low (omega arith)) at f.so in
+    omega (arith, simp length-drop at (ap length one), f.long, f.high, f.low)
+
+-- where more places are left, so are more digits
+more-left : (n from left : ℕ) (part : List ℕ) → Filling n part from left → 1 < from → 9 < left
+more-left n from left part f h = by-test (ltb left 10) refl
+  where
+    by-test : (b : Bool) → ltb left 10 ≡ b → 9 < left
+    by-test true e = absurd (omega (arith, h, first-left n from left part f (omega (arith, ltb-true left 10 e))))
+    by-test false e = omega (arith, ltb-false left 10 e)
+
+pub filling-again : (n from left : ℕ) (part : List ℕ) → Filling n part from left → 1 < from
     → Filling n (set part (from - 1) (48 + left % 10)) (from - 1) (left / 10)
-filling-again n zero left part f h = absurd (omega (arith, f.low))
-filling-again n (suc zero) left part f h = absurd (omega (arith, f.fits))
+filling-again n zero left part f h = absurd (omega arith)
+filling-again n (suc zero) left part f h = absurd (omega arith)
 filling-again n (suc (suc from)) left part f h =
     let i = suc from in
     let placed = set_front part i (48 + left % 10) (omega (arith, f.high)) in
@@ -252,7 +236,7 @@ filling-again n (suc (suc from)) left part f h =
       so =
           rw placed
           (sym (append_assoc (last_digits i (left / 10)) ((48 + left % 10) ∷ []) (drop (suc i) part))
-          ∙ ap (λ (t : List ℕ). t ++ drop (suc i) part) (sym (more-digits i left h))
+          ∙ ap (λ (t : List ℕ). t ++ drop (suc i) part) (sym (more-digits i left (more-left n (suc i) left part f h)))
           ∙ f.so);
       long = length-set part i (48 + left % 10) ∙ f.long;
       fits = fewer;
@@ -260,17 +244,18 @@ filling-again n (suc (suc from)) left part f h =
       high = simp length-set (omega (arith, f.high));
     })
 
--- the last digit that is left is the first of the part
-first-left : (n from left : ℕ) (part : List ℕ) → Filling n part from left → left ≤ 9 → from ≡ 1
-first-left n from left part f h =
-    let one = rw (one-digit from left f.low (omega arith)) at f.so in
-    omega (arith, simp length-drop at (ap length one), f.long, f.high, f.low)
+-- at the first place one digit is left
+pub one-left : (n from left : ℕ) (part : List ℕ) → Filling n part from left → from ≤ 1 → left ≤ 9
+one-left n zero left part f h = absurd (omega (arith, f.low))
+one-left n (suc zero) left part f h = omega (arith, f.fits)
+one-left n (suc (suc from)) left part f h = absurd (omega arith)
 
-pub filled : (n from left : ℕ) (part : List ℕ) → Filling n part from left → left ≤ 9 → set part 0 (48 + left) ≡ decimal n
-filled n from left part f h =
-    let one = first-left n from left part f h in
+pub filled : (n from left : ℕ) (part : List ℕ) → Filling n part from left → from ≤ 1 → set part 0 (48 + left) ≡ decimal n
+filled n zero left part f h = absurd (omega (arith, f.low))
+filled n (suc zero) left part f h =
     let first = set_front part 0 (48 + left) (omega (arith, f.high)) in
-    first ∙ sym (ap (λ (t : List ℕ). t ++ drop 1 part) (one-digit 1 left (omega arith) (omega arith))) ∙ (rw one at f.so)
+    first ∙ sym (ap (λ (t : List ℕ). t ++ drop 1 part) (one-digit 1 left (omega arith) (omega (arith, f.fits)))) ∙ f.so
+filled n (suc (suc from)) left part f h = absurd (omega arith)
 
 -- the front of a buffer, where the part was put back
 pub front : (part rest t : List ℕ) (w : ℕ) → part ≡ t → w ≡ length t → take w (part ++ rest) ≡ t

@@ -1,5 +1,7 @@
 // Text into a lent buffer, as far as there is room. Each function puts its text at a place and answers the place behind it,
 // so that one text is put behind another with no test in between.
+// Buffer and place stay two arguments: as one struct with methods they prove and cost the same, but each contract then says beside
+// what is put that the struct holds the same buffer still, and who puts one text makes a struct for it.
 #![tactic(auto)]
 
 ghost use Rattle.std.specs.Prelude.{◌≡◌, cond, [], ◌∷◌, ◌-◌, ◌*◌, ◌<◌, min, ltb, length};
@@ -16,106 +18,37 @@ pub fn put_byte(out: &mut [u8], at: usize, b: u8) -> usize
     at
 }
 
-// How many of `want` bytes a buffer takes from a place on.
-fn room(len: usize, at: usize, want: usize) -> usize
-    ensures { result ≡ min (len - at) want }
-{
-    if len <= at {
-        return 0;
-    }
-    let left = len - at;
-    if left < want { left } else { want }
-}
-
 pub fn put_bytes(out: &mut [u8], at: usize, s: &[u8]) -> usize
     ensures { Puts out.old at s.now result out.new }
 {
-    let n = room(out.len(), at, s.len());
-    let mut i: usize = 0;
-    while i < n {
-        out[at + i] = s[i];
-        i += 1;
+    if out.len() <= at {
+        return at;
     }
+    let n = s.len().min(out.len() - at);
+    out[at..at + n].copy_from_slice(&s[..n]);
     at + n
 }
 
-// How many digits a number has. Most have few.
+// How many digits a number has that is not 0.
 fn width(n: u64) -> usize
+    requires { 0 < n }
     ensures { result ≡ length (decimal n) }
 {
-    if n < 10 {
-        return 1;
-    }
-    if n < 100 {
-        return 2;
-    }
-    if n < 1_000 {
-        return 3;
-    }
-    if n < 10_000 {
-        return 4;
-    }
-    if n < 100_000 {
-        return 5;
-    }
-    if n < 1_000_000 {
-        return 6;
-    }
-    if n < 10_000_000 {
-        return 7;
-    }
-    if n < 100_000_000 {
-        return 8;
-    }
-    if n < 1_000_000_000 {
-        return 9;
-    }
-    if n < 10_000_000_000 {
-        return 10;
-    }
-    if n < 100_000_000_000 {
-        return 11;
-    }
-    if n < 1_000_000_000_000 {
-        return 12;
-    }
-    if n < 10_000_000_000_000 {
-        return 13;
-    }
-    if n < 100_000_000_000_000 {
-        return 14;
-    }
-    if n < 1_000_000_000_000_000 {
-        return 15;
-    }
-    if n < 10_000_000_000_000_000 {
-        return 16;
-    }
-    if n < 100_000_000_000_000_000 {
-        return 17;
-    }
-    if n < 1_000_000_000_000_000_000 {
-        return 18;
-    }
-    if n < 10_000_000_000_000_000_000 {
-        return 19;
-    }
-    20
+    n.ilog10() as usize + 1
 }
 
 // The digits of n, from the last to the first, in a part that is as long as they are.
+// By index: what a loop over `part.iter_mut().rev()` wrote is not known behind it, and the last turn needs no division.
 fn fill_digits(part: &mut [u8], n: u64)
     requires { length part.old ≡ length (decimal n) }
     ensures { part.new ≡ decimal n }
 {
-    let mut from = part.len();
     let mut left = n;
-    while 9 < left {
-        from -= 1;
-        part[from] = 48 + (left % 10) as u8;
-        left = left / 10;
+    for i in (1..part.len()).rev() {
+        part[i] = b'0' + (left % 10) as u8;
+        left /= 10;
     }
-    part[0] = 48 + left as u8;
+    part[0] = b'0' + left as u8;
 }
 
 // The w digits of n as far as there is room, by way of a buffer that has room for them all.
@@ -128,8 +61,11 @@ fn cut_decimal(out: &mut [u8], at: usize, n: u64, w: usize) -> usize
     put_bytes(out, at, &buffer[..w])
 }
 
-// Where there is room for all, they are put straight into their places.
+// A number of more than one digit. Where there is room for all, they are put straight into their places. A function of its own: what
+// calls it stays small enough to become a part of each column of a line.
+#[inline(never)]
 fn put_digits(out: &mut [u8], at: usize, n: u64) -> usize
+    requires { 9 < n }
     ensures { Puts out.old at (decimal n) result out.new }
 {
     if out.len() <= at {
@@ -149,7 +85,7 @@ pub fn put_decimal(out: &mut [u8], at: usize, n: u64) -> usize
     ensures { Puts out.old at (decimal n) result out.new }
 {
     if n < 10 {
-        return put_byte(out, at, 48 + n as u8);
+        return put_byte(out, at, b'0' + n as u8);
     }
     put_digits(out, at, n)
 }
@@ -161,12 +97,12 @@ fn beyond_nine(n: u8) -> u8
     if n < 10 { 0 } else { 7 }
 }
 
-// A sum, so that a loop of these is vectorised.
+// A sum, so that a loop of these is vectorised: with an `if` of two letters, a picture byte takes two fifths of an instruction more.
 fn hex_digit(n: u8) -> u8
     requires { n < 16 }
     ensures { result ≡ hex_digit n }
 {
-    48 + n + beyond_nine(n)
+    b'0' + n + beyond_nine(n)
 }
 
 // A byte as two digits, 0 to 9 and A to F.
@@ -178,16 +114,14 @@ pub fn put_hex(out: &mut [u8], at: usize, b: u8) -> usize
 }
 
 // The digits of each byte, in a part that is as long as they are.
+// By index: what a loop over `part.chunks_exact_mut(2)` wrote is not known behind it.
 fn fill_hexes(part: &mut [u8], s: &[u8])
     requires { length part.old ≡ 2 * length s.now }
     ensures { part.new ≡ hexes s.now }
 {
-    let mut i: usize = 0;
-    while i < s.len() {
-        let b = s[i];
+    for (i, &b) in s.iter().enumerate() {
         part[2 * i] = hex_digit(b / 16);
         part[2 * i + 1] = hex_digit(b % 16);
-        i += 1;
     }
 }
 
@@ -195,11 +129,9 @@ fn fill_hexes(part: &mut [u8], s: &[u8])
 fn cut_hexes(out: &mut [u8], at: usize, s: &[u8]) -> usize
     ensures { Puts out.old at (hexes s.now) result out.new }
 {
-    let mut i: usize = 0;
     let mut next = at;
-    while i < s.len() {
-        next = put_hex(out, next, s[i]);
-        i += 1;
+    for &b in s {
+        next = put_hex(out, next, b);
     }
     next
 }

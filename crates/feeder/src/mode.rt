@@ -1,64 +1,55 @@
 // The feeder's mode and state.
 #![tactic(auto, unfolding(rules::specs::Machine::step, rules::specs::Machine::refusals, rules::specs::Machine::feeder_refusals, rules::specs::Machine::effect, rules::specs::Machine::feeder_effect, rules::specs::Calls::answer))]
 
-ghost use Rattle.std.specs.Prelude.{◌≡◌, true, [], eqb, length};
+ghost use Rattle.std.specs.Prelude.{◌≡◌, true, [], length};
 ghost use Rattle.rules.specs.Record.{sound};
-ghost use Rattle.rules.specs.Feeder.{simplex};
 ghost use Rattle.rules.specs.Calls.{feeder, SetFeederMode, GetFeederState, GetFeederMode};
 ghost use Rattle.rules.specs.Machine.{step};
 ghost use Rattle.answers.specs.Told.{state_of, gave};
 
-use answers::{After, Answer, Why};
-use rules::{Feeder, Record};
-
-fn is_simplex(mode: u8) -> bool
-    ensures { result ≡ eqb mode simplex }
-{
-    mode == Feeder::SIMPLEX
-}
+use answers::{Answer, Told, Why};
+use rules::{Feed, Feeder, Record};
 
 // The one mode is 0, Simplex.
 pub fn set_feeder_mode_sound(r: Record, ring: &[u8], job: u32, mode: u8) -> Answer
     ensures { sound r (length ring.now) ≡ true
         → gave (record { next = r; answer = result }) ring.now [] ≡ step (state_of r ring.now) (feeder (SetFeederMode job mode)) }
 {
-    let f = r.feeder;
-    let s = f.state;
-    if !is_simplex(mode) {
-        return Answer::Refused(Why::Unlisted);
+    if mode != Feeder::SIMPLEX {
+        return Err(Why::Unlisted);
     }
     if words::not_ours(job, r) {
-        return Answer::Refused(Why::OtherJob);
+        return Err(Why::OtherJob);
     }
-    if !words::is_unloaded(s) {
-        return Answer::Refused(Why::WrongState);
+    if r.feeder.state != Feed::Unloaded {
+        return Err(Why::WrongState);
     }
-    Answer::Done
+    Ok(Told::Done)
 }
 
-pub fn set_feeder_mode(r: Record, ring: &[u8], job: u32, mode: u8) -> After
-    ensures { gave result ring.now [] ≡ step (state_of r ring.now) (feeder (SetFeederMode job mode)) }
+pub fn set_feeder_mode(r: Record, ring: &[u8], job: u32, mode: u8) -> Answer
+    ensures { gave (record { next = r; answer = result }) ring.now [] ≡ step (state_of r ring.now) (feeder (SetFeederMode job mode)) }
 {
     if !sound::sound_with(r, ring) {
-        return After::refused(Why::Unsound, r);
+        return Err(Why::Unsound);
     }
-    After::told(set_feeder_mode_sound(r, ring, job, mode), r)
+    set_feeder_mode_sound(r, ring, job, mode)
 }
 
 pub fn get_feeder_mode_sound(r: Record, ring: &[u8]) -> Answer
     ensures { sound r (length ring.now) ≡ true
         → gave (record { next = r; answer = result }) ring.now [] ≡ step (state_of r ring.now) (feeder GetFeederMode) }
 {
-    Answer::Mode(Feeder::SIMPLEX)
+    Ok(Told::Mode(Feeder::SIMPLEX))
 }
 
-pub fn get_feeder_mode(r: Record, ring: &[u8]) -> After
-    ensures { gave result ring.now [] ≡ step (state_of r ring.now) (feeder GetFeederMode) }
+pub fn get_feeder_mode(r: Record, ring: &[u8]) -> Answer
+    ensures { gave (record { next = r; answer = result }) ring.now [] ≡ step (state_of r ring.now) (feeder GetFeederMode) }
 {
     if !sound::sound_with(r, ring) {
-        return After::refused(Why::Unsound, r);
+        return Err(Why::Unsound);
     }
-    After::told(get_feeder_mode_sound(r, ring), r)
+    get_feeder_mode_sound(r, ring)
 }
 
 pub fn get_state_sound(r: Record, ring: &[u8]) -> Answer
@@ -66,16 +57,14 @@ pub fn get_state_sound(r: Record, ring: &[u8]) -> Answer
         → gave (record { next = r; answer = result }) ring.now [] ≡ step (state_of r ring.now) (feeder GetFeederState) }
 {
     let f = r.feeder;
-    let s = f.state;
-    let why = f.failure;
-    Answer::Feeding(s, f.tray, why)
+    Ok(Told::Feeding(f.state, f.tray, f.failure))
 }
 
-pub fn get_state(r: Record, ring: &[u8]) -> After
-    ensures { gave result ring.now [] ≡ step (state_of r ring.now) (feeder GetFeederState) }
+pub fn get_state(r: Record, ring: &[u8]) -> Answer
+    ensures { gave (record { next = r; answer = result }) ring.now [] ≡ step (state_of r ring.now) (feeder GetFeederState) }
 {
     if !sound::sound_with(r, ring) {
-        return After::refused(Why::Unsound, r);
+        return Err(Why::Unsound);
     }
-    After::told(get_state_sound(r, ring), r)
+    get_state_sound(r, ring)
 }

@@ -3,45 +3,20 @@
 
 pub mod rule;
 
-ghost use Rattle.std.specs.Prelude.{◌≡◌, cond, ◌&&◌};
-ghost use Rattle.rules.specs.declared.Input.{Input};
-ghost use Rattle.rules.specs.Record.{on, unloaded, stuck};
-ghost use Rattle.rules.specs.Feeder.{stands, tray_at, path_at, fed_at, cleared, besides, driven, jam_stops, sheet_stops, taken, freed, late};
+ghost use Rattle.std.specs.Prelude.{◌≡◌, cond};
+ghost use Rattle.rules.specs.Record.{on};
+ghost use Rattle.rules.specs.Feeder.{tray_at, path_at, cleared, besides, driven, jam_stops, sheet_stops, taken, freed, late};
 
 use rules::{Failure, Feed, Feeder, Input};
 
-fn stand(state: Feed, f: Feeder) -> Feeder
-    ensures { result ≡ stands state f }
-{
-    let failure = f.failure;
-    Feeder {
-        state,
-        failure,
-        tray: f.tray,
-        path: f.path,
-    }
-}
-
-// Reset leads out of Erred.
-fn leaves(f: Feeder) -> bool
-    ensures { result ≡ (stuck f.state && unloaded (fed_at Input.Reset f).next) }
-{
-    let state = f.state;
-    let d = rule::ask(Input::Reset, f);
-    let next = d.next;
-    let erred = words::is_stuck(state);
-    let free = words::is_unloaded(next);
-    erred & free
-}
-
+// Reset leads out of Erred: none. Else FailureCode stays.
 fn clear(f: Feeder) -> Failure
     ensures { result ≡ cleared f }
 {
-    let failure = f.failure;
-    if leaves(f) {
+    if (f.state == Feed::Erred) & (rule::ask(Input::Reset, f).next == Feed::Unloaded) {
         return Failure::None;
     }
-    failure
+    f.failure
 }
 
 // What an input changes besides the state.
@@ -49,29 +24,17 @@ fn beside(input: Input, f: Feeder) -> Feeder
     ensures { result ≡ besides input f }
 {
     match input {
-        Input::Load => f,
-        Input::EjectOne => f,
+        Input::Load | Input::EjectOne | Input::SideEnd => f,
         Input::EjectAll => set_tray(0, f),
-        Input::Reset => {
-            let failure = clear(f);
-            let state = f.state;
-            Feeder {
-                state,
-                failure,
-                tray: f.tray,
-                path: f.path,
-            }
-        }
-        Input::Jam => {
-            let state = f.state;
-            Feeder {
-                state,
-                failure: Failure::Jammed,
-                tray: f.tray,
-                path: 1,
-            }
-        }
-        Input::SideEnd => f,
+        Input::Reset => Feeder {
+            failure: clear(f),
+            ..f
+        },
+        Input::Jam => Feeder {
+            failure: Failure::Jammed,
+            path: 1,
+            ..f
+        },
     }
 }
 
@@ -79,28 +42,24 @@ fn beside(input: Input, f: Feeder) -> Feeder
 pub fn drive(input: Input, f: Feeder) -> Feeder
     ensures { result ≡ driven input f }
 {
-    let d = rule::ask(input, f);
-    let next = d.next;
-    let n = beside(input, f);
-    stand(next, n)
+    Feeder {
+        state: rule::ask(input, f).next,
+        ..beside(input, f)
+    }
 }
 
 // A side that is to begin from the feeder finds it Erred.
 pub fn jam_stops(from: u8, f: Feeder) -> bool
     ensures { result ≡ jam_stops from f }
 {
-    let s = f.state;
-    let stuck = words::is_stuck(s);
-    (from == 1) & stuck
+    (from == 1) & (f.state == Feed::Erred)
 }
 
 // A side that is to begin from the feeder finds no sheet.
 pub fn sheet_stops(from: u8, f: Feeder) -> bool
     ensures { result ≡ sheet_stops from f }
 {
-    let s = f.state;
-    let none = words::is_unloaded(s);
-    (from == 1) & (none & (f.tray == 0))
+    (from == 1) & (f.state == Feed::Unloaded) & (f.tray == 0)
 }
 
 // Where the side begins from the feeder, it becomes Busy.
@@ -108,7 +67,10 @@ pub fn take_from(from: u8, f: Feeder) -> Feeder
     ensures { result ≡ cond (on from) (taken f) f }
 {
     if from == 1 {
-        return stand(Feed::Busy, f);
+        return Feeder {
+            state: Feed::Busy,
+            ..f
+        };
     }
     f
 }
@@ -117,9 +79,11 @@ pub fn take_from(from: u8, f: Feeder) -> Feeder
 pub fn free(f: Feeder) -> Feeder
     ensures { result ≡ freed f }
 {
-    let s = f.state;
-    if words::is_busy(s) {
-        return stand(Feed::Unloaded, f);
+    if f.state == Feed::Busy {
+        return Feeder {
+            state: Feed::Unloaded,
+            ..f
+        };
     }
     f
 }
@@ -128,13 +92,11 @@ pub fn free(f: Feeder) -> Feeder
 pub fn be_late(f: Feeder) -> Feeder
     ensures { result ≡ late f }
 {
-    let s = f.state;
-    if words::is_busy(s) {
+    if f.state == Feed::Busy {
         return Feeder {
             state: Feed::Erred,
             failure: Failure::Timeout,
-            tray: f.tray,
-            path: f.path,
+            ..f
         };
     }
     f
@@ -143,15 +105,11 @@ pub fn be_late(f: Feeder) -> Feeder
 pub fn set_tray(value: u8, f: Feeder) -> Feeder
     ensures { result ≡ tray_at value f }
 {
-    let mut n = f;
-    n.tray = value;
-    n
+    Feeder { tray: value, ..f }
 }
 
 pub fn set_path(value: u8, f: Feeder) -> Feeder
     ensures { result ≡ path_at value f }
 {
-    let mut n = f;
-    n.path = value;
-    n
+    Feeder { path: value, ..f }
 }

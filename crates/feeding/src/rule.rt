@@ -1,18 +1,24 @@
-// The feeder's rule: of mode, state, input, tray and path sensor the next state, and the number.
+// The feeder's rule: of mode, state, input, tray and path sensor the next state, and why the input is denied.
 ghost use Rattle.std.specs.Prelude.{◌≡◌, cond, ◌&&◌, eqb};
 ghost use Rattle.rules.specs.declared.Feed.{Feed};
+ghost use Rattle.rules.specs.declared.Denial.{Denial};
 ghost use Rattle.rules.specs.Record.{busy, stuck};
-ghost use Rattle.rules.specs.Calls.{n501};
 ghost use Rattle.rules.specs.Feeder.{becomes, denied, ready, loads, fed, fed_at};
 
-use rules::{Fed, Feed, Feeder, Input};
+use rules::{Denial, Fed, Feed, Feeder, Input};
 
 fn accept(next: Feed) -> Fed
     ensures { result ≡ becomes next }
 {
+    Fed { next, denied: None }
+}
+
+fn deny(why: Denial, next: Feed) -> Fed
+    ensures { result ≡ denied why next }
+{
     Fed {
         next,
-        number: Fed::ACCEPTED,
+        denied: Some(why),
     }
 }
 
@@ -21,16 +27,9 @@ fn if_ready(state: Feed, told: Fed) -> Fed
     ensures { result ≡ ready state told }
 {
     match state {
-        Feed::Unloaded => told,
-        Feed::Loaded => told,
-        Feed::Busy => Fed {
-            next: Feed::Busy,
-            number: Fed::WRONG_STATE,
-        },
-        Feed::Erred => Fed {
-            next: Feed::Erred,
-            number: Fed::ERRED,
-        },
+        Feed::Busy => deny(Denial::WrongState, state),
+        Feed::Erred => deny(Denial::Erred, state),
+        _ => told,
     }
 }
 
@@ -39,36 +38,19 @@ fn load(tray: u8) -> Fed
     ensures { result ≡ loads tray }
 {
     if tray == 0 {
-        return Fed {
-            next: Feed::Unloaded,
-            number: Fed::NO_SHEET,
-        };
+        return deny(Denial::NoSheet, Feed::Unloaded);
     }
     accept(Feed::Loaded)
 }
 
-// Erred with path sensor 0 becomes Unloaded.
-fn clear(path: u8) -> Fed
-    ensures { result ≡ becomes (cond (eqb path 0) Feed.Unloaded Feed.Erred) }
-{
-    if path == 0 {
-        return accept(Feed::Unloaded);
-    }
-    accept(Feed::Erred)
-}
-
-// 501 if Busy; else nothing changes, but for Erred.
+// 501 if Busy; Erred with path sensor 0 becomes Unloaded; else nothing changes.
 fn reset(state: Feed, path: u8) -> Fed
-    ensures { result ≡ cond (busy state) (denied n501 state) (becomes (cond (stuck state && eqb path 0) Feed.Unloaded state)) }
+    ensures { result ≡ cond (busy state) (denied Denial.WrongState state) (becomes (cond (stuck state && eqb path 0) Feed.Unloaded state)) }
 {
     match state {
-        Feed::Unloaded => accept(Feed::Unloaded),
-        Feed::Loaded => accept(Feed::Loaded),
-        Feed::Busy => Fed {
-            next: Feed::Busy,
-            number: Fed::WRONG_STATE,
-        },
-        Feed::Erred => clear(path),
+        Feed::Busy => deny(Denial::WrongState, state),
+        Feed::Erred if path == 0 => accept(Feed::Unloaded),
+        _ => accept(state),
     }
 }
 
@@ -77,10 +59,8 @@ fn end_side(state: Feed) -> Fed
     ensures { result ≡ becomes (cond (busy state) Feed.Unloaded state) }
 {
     match state {
-        Feed::Unloaded => accept(Feed::Unloaded),
-        Feed::Loaded => accept(Feed::Loaded),
         Feed::Busy => accept(Feed::Unloaded),
-        Feed::Erred => accept(Feed::Erred),
+        _ => accept(state),
     }
 }
 
@@ -91,8 +71,7 @@ pub fn fed(mode: u8, state: Feed, input: Input, tray: u8, path: u8) -> Fed
 {
     match input {
         Input::Load => if_ready(state, load(tray)),
-        Input::EjectOne => if_ready(state, accept(Feed::Unloaded)),
-        Input::EjectAll => if_ready(state, accept(Feed::Unloaded)),
+        Input::EjectOne | Input::EjectAll => if_ready(state, accept(Feed::Unloaded)),
         Input::Reset => reset(state, path),
         Input::Jam => accept(Feed::Erred),
         Input::SideEnd => end_side(state),
@@ -103,6 +82,5 @@ pub fn fed(mode: u8, state: Feed, input: Input, tray: u8, path: u8) -> Fed
 pub fn ask(input: Input, f: Feeder) -> Fed
     ensures { result ≡ fed_at input f }
 {
-    let state = f.state;
-    fed(Feeder::SIMPLEX, state, input, f.tray, f.path)
+    fed(Feeder::SIMPLEX, f.state, input, f.tray, f.path)
 }

@@ -1,7 +1,7 @@
 // Fetch by name.
 #![tactic(auto, unfolding(rules::specs::Machine::step, rules::specs::Machine::refusals, rules::specs::Machine::scan_refusals, rules::specs::Machine::effect, rules::specs::Machine::scan_effect, rules::specs::Calls::answer))]
 
-ghost use Rattle.std.specs.Prelude.{◌≡◌, true, not, ◌||◌, ◌&&◌, ◌-◌, ◌<◌, ◌≤◌, min, eqb, length};
+ghost use Rattle.std.specs.Prelude.{◌≡◌, true, Ok, not, ◌||◌, ◌&&◌, ◌-◌, ◌<◌, ◌≤◌, min, eqb, length};
 ghost use Rattle.rules.specs.Record.{idle, finishing, sound};
 ghost use Rattle.rules.specs.Name.{name, same};
 ghost use Rattle.rules.specs.Moves.{least};
@@ -12,38 +12,25 @@ ghost use Rattle.moves.specs.Holds.{is_named};
 ghost use Rattle.answers.specs.Told.{state_of, gave};
 ghost use Rattle.fetch.specs.Reply.{reply_with, noted};
 
-use answers::{After, Answer, Why};
-use rules::{Record, Ring};
+use answers::{Answer, Told, Why};
+use rules::{Record, Ring, Scan};
 
 // Idle, or not the present name.
 fn is_other(called: &[u8], r: Record) -> bool
     ensures { result ≡ (idle r.scanner.state || not (same called.now (name r))) }
 {
-    let c = r.scanner;
-    let s = c.state;
-    let present = name::is_present(called, r);
-    words::is_idle(s) | !present
+    (r.scanner.state == Scan::Idle) | !name::is_present(called, r)
 }
 
-// The smaller of what is stored and what is asked for.
-fn wanted(stored: usize, most: u8) -> usize
-    ensures { result ≡ min stored most }
-{
-    let most = most as usize;
-    if stored <= most { stored } else { most }
-}
-
-// The reply's head, and as many bytes straight after it as find room: how many.
+// As many bytes as find room behind the reply's head, and the head: how many.
+#[tactic(auto, using(crate::proofs::Handed::made))]
 fn move_out(ring: &[u8], start: usize, want: usize, reply: &mut [u8]) -> usize
     requires { (want < 256) × (4 ≤ length reply.old) }
     ensures value { result ≡ goes_out (length ring.now) start want (length reply.old - 4) }
     ensures reply_after { reply.new ≡ reply_with ring.now start result reply.old }
 {
-    reply[0] = 0xA5;
-    reply[1] = 0x5A;
-    reply[2] = 0x06;
     let k = ring::take_out(ring, start, want, &mut reply[4..]);
-    reply[3] = k as u8;
+    reply[..4].copy_from_slice(&[0xA5, 0x5A, 0x06, k as u8]);
     k
 }
 
@@ -51,60 +38,58 @@ fn move_out(ring: &[u8], start: usize, want: usize, reply: &mut [u8]) -> usize
 fn is_last(left: Ring, r: Record) -> bool
     ensures { result ≡ (finishing r.scanner.state && eqb left.stored 0) }
 {
-    let c = r.scanner;
-    let s = c.state;
-    let f = words::is_finishing(s);
-    f & (left.stored == 0)
+    (r.scanner.state == Scan::Finishing) & (left.stored == 0)
 }
 
 // Start moves on by k; the drain step follows the last byte, of a record whose last name is its own.
-fn note(r: Record, len: usize, k: usize) -> After
+#[tactic(auto, unfolding(crate::specs::Reply::noted, rules::specs::Moves::fetched, rules::specs::Moves::moved))]
+fn note(r: &mut Record, len: usize, k: usize) -> Told
     requires { k < 256 }
-    ensures { has r.ring len k ≡ true → (finishing r.scanner.state ≡ true → is_named r ≡ true) → result ≡ noted k len r }
+    ensures { has r.old.ring len k ≡ true → (finishing r.old.scanner.state ≡ true → is_named r.old ≡ true)
+        → record { next = r.new; answer = Ok result } ≡ noted k len r.old }
 {
-    let was = r.ring;
-    let left = ring::leave(was, len, k);
-    let n = moves::hear(k, left, r);
-    if is_last(left, r) {
-        return After::told(Answer::Picture(k as u8, true), moves::drain(n));
+    let left = ring::leave(r.ring, len, k);
+    let last = is_last(left, *r);
+    *r = moves::hear(k, left, *r);
+    if last {
+        *r = moves::drain(*r);
     }
-    After::told(Answer::Picture(k as u8, false), n)
+    Told::Picture(k as u8, last)
 }
 
-fn fetch_now(r: Record, ring: &[u8], most: u8, reply: &mut [u8]) -> After
+// The smaller of what is stored and what is asked for goes out, as far as it finds room.
+fn fetch_now(r: &mut Record, ring: &[u8], most: u8, reply: &mut [u8]) -> Told
     requires { 4 ≤ length reply.old }
-    ensures value { sound r (length ring.now) ≡ true
-        → result ≡ noted (least r.ring.stored most (length reply.old)) (length ring.now) r }
-    ensures reply_after { sound r (length ring.now) ≡ true → reply.new
-        ≡ reply_with ring.now r.ring.start (least r.ring.stored most (length reply.old)) reply.old }
+    ensures value { sound r.old (length ring.now) ≡ true → record { next = r.new; answer = Ok result }
+        ≡ noted (least r.old.ring.stored most (length reply.old)) (length ring.now) r.old }
+    ensures reply_after { sound r.old (length ring.now) ≡ true → reply.new
+        ≡ reply_with ring.now r.old.ring.start (least r.old.ring.stored most (length reply.old)) reply.old }
 {
-    let g = r.ring;
-    let start = g.start;
-    let want = wanted(g.stored, most);
-    let k = move_out(ring, start, want, reply);
+    let want = r.ring.stored.min(usize::from(most));
+    let k = move_out(ring, r.ring.start, want, reply);
     note(r, ring.len(), k)
 }
 
-// What it gives on a sound record: for a caller that has tested that already.
-pub fn fetch_sound(r: Record, ring: &[u8], called: &[u8], most: u8, reply: &mut [u8]) -> After
-    ensures { sound r (length ring.now) ≡ true → gave result ring.now reply.new
-        ≡ step (state_of r ring.now) (scan (Fetch called.now most reply.old)) }
+// What it gives on a sound record: for a caller that has tested that already. It takes any record, so soundness is a premise.
+pub fn fetch_sound(r: &mut Record, ring: &[u8], called: &[u8], most: u8, reply: &mut [u8]) -> Answer
+    ensures { sound r.old (length ring.now) ≡ true → gave (record { next = r.new; answer = result }) ring.now reply.new
+        ≡ step (state_of r.old ring.now) (scan (Fetch called.now most reply.old)) }
 {
-    if is_other(called, r) {
-        return After::refused(Why::OtherName, r);
+    if is_other(called, *r) {
+        return Err(Why::OtherName);
     }
     if reply.len() < 4 {
-        return After::refused(Why::NoRoom, r);
+        return Err(Why::NoRoom);
     }
-    fetch_now(r, ring, most, reply)
+    Ok(fetch_now(r, ring, most, reply))
 }
 
-pub fn fetch(r: Record, ring: &[u8], called: &[u8], most: u8, reply: &mut [u8]) -> After
-    ensures { gave result ring.now reply.new
-        ≡ step (state_of r ring.now) (scan (Fetch called.now most reply.old)) }
+pub fn fetch(r: &mut Record, ring: &[u8], called: &[u8], most: u8, reply: &mut [u8]) -> Answer
+    ensures { gave (record { next = r.new; answer = result }) ring.now reply.new
+        ≡ step (state_of r.old ring.now) (scan (Fetch called.now most reply.old)) }
 {
-    if !sound::sound_with(r, ring) {
-        return After::refused(Why::Unsound, r);
+    if !sound::sound_with(*r, ring) {
+        return Err(Why::Unsound);
     }
     fetch_sound(r, ring, called, most, reply)
 }

@@ -6,7 +6,7 @@ ghost use Rattle.host_tick.specs.Second.{second_of};
 
 use rules::Record;
 
-// A second's record and number.
+// A second's record and number. A number and no `Answer`: a second reports nothing more, and `second-settled` settles it by its number.
 #[derive(Clone, Copy)]
 pub struct Ticked {
     pub next: Record,
@@ -18,12 +18,11 @@ pub fn second(r: Record, length: usize) -> Ticked
     ensures number_value { result.number ≡ (second_of r length).number }
     ensures next_value { result.next ≡ (second_of r length).state.box }
 {
-    let after = report::tick_in(r, length);
-    let next = after.next;
-    let answer = after.answer;
+    let mut left = r;
+    let answer = report::tick_in(&mut left, length);
     Ticked {
-        next,
-        number: answer.number(),
+        next: left,
+        number: answers::number(answer),
     }
 }
 
@@ -31,8 +30,7 @@ pub fn second(r: Record, length: usize) -> Ticked
 pub fn tick(r: &mut Record, length: usize) -> u16
     ensures { (result ≡ (second_of r.old length).number) × (r.new ≡ (second_of r.old length).state.box) }
 {
-    let was = *r;
-    let after = second(was, length);
+    let after = second(*r, length);
     *r = after.next;
     after.number
 }

@@ -11,8 +11,11 @@ use rules::{Failure, Granted, Job, Record, Scan, Scanner};
 fn next_job(r: Record) -> u32
     ensures { result ≡ next_job r }
 {
-    let last = r.job.last;
-    if last == Job::GREATEST { 1 } else { last + 1 }
+    if r.job.last == Job::GREATEST {
+        1
+    } else {
+        r.job.last + 1
+    }
 }
 
 // The setting Append, the job and its time stored.
@@ -21,17 +24,11 @@ pub fn give(append: u8, asked: u32, r: Record) -> Record
     ensures { result ≡ given append asked r }
 {
     let job = next_job(r);
-    let time = Granted::grant(asked);
-    let j = Job {
-        held: job,
-        last: job,
-        granted: time,
-        quiet: r.job.quiet,
-        stop: r.job.stop,
-    };
     let mut n = r;
     n.settings.append = append;
-    n.job = j;
+    n.job.held = job;
+    n.job.last = job;
+    n.job.granted = Granted::grant(asked);
     n
 }
 
@@ -40,15 +37,13 @@ pub fn give(append: u8, asked: u32, r: Record) -> Record
 fn ready(from: u8, count: u32, r: Record) -> Record
     ensures { result ≡ readied from count r }
 {
-    let sides = sides::stored_sides(from, count);
     let mut n = r;
-    let scanner = Scanner {
+    n.scanner = Scanner {
         state: Scan::Pending,
         failure: Failure::None,
     };
-    n.scanner = scanner;
     n.settings.feeder = from;
-    n.side.count = sides;
+    n.side.count = sides::stored_sides(from, count);
     n.job.quiet = 0;
     n
 }
@@ -59,17 +54,14 @@ pub fn start(from: u8, count: u32, r: Record) -> Record
     ensures { result ≡ started from count r }
 {
     let n = ready(from, count, r);
-    if count == 0 {
-        return n;
-    }
-    moves::begin(n)
+    if count == 0 { n } else { moves::begin(n) }
 }
 
 // Pending or Erred: no side is under way.
 pub fn waits(s: Scan) -> bool
     ensures { result ≡ (pending s || erred s) }
 {
-    words::is_pending(s) | words::is_erred(s)
+    (s == Scan::Pending) | (s == Scan::Erred)
 }
 
 // Pending or Erred ends the job; Scanning or Finishing sets stop-asked.
@@ -77,9 +69,7 @@ pub fn waits(s: Scan) -> bool
 pub fn stop(r: Record) -> Record
     ensures { result ≡ stopped r }
 {
-    let c = r.scanner;
-    let s = c.state;
-    if waits(s) {
+    if waits(r.scanner.state) {
         return moves::end(r);
     }
     moves::set_stop(1, r)

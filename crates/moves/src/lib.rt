@@ -1,12 +1,13 @@
-// The moves of the record, each under the requirements' name. What they leave alone they keep.
+// The moves of the record, each under the requirements' name. What they leave alone they keep. A record goes in by value and comes out,
+// as in the definitions; by `&mut` each contract would say so of an old and a new one.
 #![tactic(auto)]
 
 ghost use Rattle.std.specs.Prelude.{◌≡◌, true};
-ghost use Rattle.rules.specs.Moves.{with_feeder, with_ring, standing, quiet_at, stop_at, emptied, fed_by, heard, begun, announced, released, ended, timed_out};
+ghost use Rattle.rules.specs.Moves.{with_feeder, with_ring, standing, quiet_at, stop_at, fed_by, heard, begun, announced, released, ended, timed_out};
 ghost use Rattle.rules.specs.Moves.{risen, announced_by, faulted, waited, numbered, drained_on, drained};
 ghost use Rattle.moves.specs.Holds.{is_named};
 
-use rules::{Failure, Feeder, Input, Names, Record, Ring, Scan, Scanner, Side};
+use rules::{Failure, Feeder, Input, Record, Ring, Scan, Scanner, Side};
 
 pub fn with_feeder(f: Feeder, r: Record) -> Record
     ensures { result ≡ with_feeder f r }
@@ -20,9 +21,7 @@ pub fn with_feeder(f: Feeder, r: Record) -> Record
 pub fn feed(input: Input, r: Record) -> Record
     ensures { result ≡ fed_by input r }
 {
-    let was = r.feeder;
-    let f = feeding::drive(input, was);
-    with_feeder(f, r)
+    with_feeder(feeding::drive(input, r.feeder), r)
 }
 
 pub fn set_quiet(quiet: u16, r: Record) -> Record
@@ -45,11 +44,8 @@ pub fn set_stop(mark: u8, r: Record) -> Record
 pub fn stand(state: Scan, r: Record) -> Record
     ensures { result ≡ standing state r }
 {
-    let c = r.scanner;
-    let failure = c.failure;
     let mut n = r;
-    let scanner = Scanner { state, failure };
-    n.scanner = scanner;
+    n.scanner.state = state;
     n
 }
 
@@ -61,7 +57,6 @@ pub fn hear(k: usize, g: Ring, r: Record) -> Record
     n.ring = g;
     if 1 <= k {
         n.job.quiet = 0;
-        return n;
     }
     n
 }
@@ -71,13 +66,9 @@ pub fn hear(k: usize, g: Ring, r: Record) -> Record
 fn raise(r: Record) -> Record
     ensures { result ≡ announced_by (risen r.side.destination) r }
 {
-    let id = sides::raise(r.side.destination);
-    let names = Names {
-        last: name::kept(r.job.held, r.settings.append, r.side.number),
-    };
     let mut n = r;
-    n.side.destination = id;
-    n.names = names;
+    n.side.destination = sides::raise(r.side.destination);
+    n.names.last = name::kept(r.job.held, r.settings.append, r.side.number);
     n
 }
 
@@ -86,12 +77,7 @@ pub fn announce(r: Record) -> Record
     ensures { result ≡ announced r }
 {
     let n = raise(r);
-    let was = r.names;
-    let is = n.names;
-    if name::is_alike(was.last, is.last) {
-        return r;
-    }
-    n
+    if n.names == r.names { r } else { n }
 }
 
 // ---- a side begins
@@ -100,10 +86,8 @@ pub fn announce(r: Record) -> Record
 pub fn begin(r: Record) -> Record
     ensures { result ≡ begun r }
 {
-    let was = r.feeder;
-    let f = feeding::take_from(r.settings.feeder, was);
-    let fed = with_feeder(f, r);
-    stand(Scan::Scanning, fed)
+    let f = feeding::take_from(r.settings.feeder, r.feeder);
+    stand(Scan::Scanning, with_feeder(f, r))
 }
 
 // ---- end of job
@@ -112,22 +96,20 @@ fn release(why: Failure, left: Feeder, r: Record) -> Record
     ensures { result ≡ released why left r }
 {
     let mut n = r;
-    let scanner = Scanner {
+    n.scanner = Scanner {
         state: Scan::Idle,
         failure: why,
     };
-    n.scanner = scanner;
     n.job.held = 0;
     n.job.quiet = 0;
     n.job.stop = 0;
     n.side.number = 1;
     n.side.count = 0;
     n.feeder = left;
-    let ring = Ring {
+    n.ring = Ring {
         start: 0,
         stored: 0,
     };
-    n.ring = ring;
     n
 }
 
@@ -135,18 +117,14 @@ fn release(why: Failure, left: Feeder, r: Record) -> Record
 pub fn end(r: Record) -> Record
     ensures { result ≡ ended r }
 {
-    let was = r.feeder;
-    let f = feeding::free(was);
-    release(Failure::None, f, r)
+    release(Failure::None, feeding::free(r.feeder), r)
 }
 
 // FailureCode Timeout; a Busy feeder becomes Erred, Timeout.
 pub fn end_by_time(r: Record) -> Record
     ensures { result ≡ timed_out r }
 {
-    let was = r.feeder;
-    let f = feeding::be_late(was);
-    release(Failure::Timeout, f, r)
+    release(Failure::Timeout, feeding::be_late(r.feeder), r)
 }
 
 // ---- the drain step
@@ -154,11 +132,10 @@ pub fn fault(r: Record) -> Record
     ensures { result ≡ faulted r }
 {
     let mut n = r;
-    let scanner = Scanner {
+    n.scanner = Scanner {
         state: Scan::Erred,
         failure: Failure::Jammed,
     };
-    n.scanner = scanner;
     n
 }
 
@@ -169,7 +146,6 @@ fn wait(r: Record) -> Record
     let mut w = stand(Scan::Pending, r);
     if r.side.count == Side::ENDLESS {
         w.side.count = 0;
-        return w;
     }
     w
 }
@@ -178,41 +154,35 @@ fn wait(r: Record) -> Record
 fn number(r: Record) -> Record
     ensures { result ≡ numbered r }
 {
-    let d = r.side;
     let mut n = r;
-    if d.number < Side::LAST {
-        let next = d.number + 1;
-        n.side.number = next;
-        return n;
-    }
-    n.side.number = 0;
+    n.side.number = if r.side.number < Side::LAST {
+        r.side.number + 1
+    } else {
+        0
+    };
     n
 }
 
 // The side has its next number. With Append 1 that is another name; else the name stays, and nothing is compared.
+// That the record is named stays a condition in the contract: as a type it would ask more of the callers of `drain`, which take any record.
 fn number_on(r: Record) -> Record
     ensures { is_named r ≡ true → result ≡ announced (numbered r) }
 {
     let n = number(r);
-    if r.settings.append == 1 {
-        return raise(n);
-    }
-    n
+    if r.settings.append == 1 { raise(n) } else { n }
 }
 
 // What follows once the side has its next number and its name.
 fn drain_on(r: Record) -> Record
     ensures { result ≡ drained_on r }
 {
-    let from = r.settings.feeder;
-    let f = r.feeder;
     if r.side.count == 0 {
         return stand(Scan::Pending, r);
     }
-    if feeding::jam_stops(from, f) {
+    if feeding::jam_stops(r.settings.feeder, r.feeder) {
         return fault(r);
     }
-    if feeding::sheet_stops(from, f) {
+    if feeding::sheet_stops(r.settings.feeder, r.feeder) {
         return wait(r);
     }
     begin(r)

@@ -1,7 +1,7 @@
 -- A name as text: in its eighteen bytes, unused bytes 0.
 use Rattle.std.specs.Prelude.{ℕ, ◌+◌, ◌/◌, ◌%◌, List, length, take}
 use Rattle.rules.specs.Name.{eighteen}
-use Rattle.name.specs.declared.Name.{Name}
+use Rattle.name.specs.declared.text.Name.{Name}
 
 -- the digit of a number at a place
 abbrev pub digit_of : ℕ → ℕ → ℕ

@@ -2,36 +2,28 @@
 #![tactic(auto)]
 
 ghost use Rattle.std.specs.Prelude.{◌≡◌, [], ◌∷◌, ◌+◌, ◌*◌, ◌%◌};
-ghost use Rattle.rules.specs.Name.{name_of, name, same, packed, spelt, alike};
+ghost use Rattle.rules.specs.Name.{name_of, name, same, packed, spelt};
 ghost use Rattle.name.specs.Spelled.{digit_of, padded};
 
+pub mod text;
+
 use rules::{Named, Record};
-
-// The longest name's length.
-const MOST: usize = 18;
-
-// The bytes of a name and how many there are; unused bytes are 0.
-#[derive(Clone, Copy)]
-pub struct Name {
-    pub bytes: [u8; MOST],
-    pub len: usize,
-}
+use text::MOST;
+pub use text::Name;
 
 fn digit(n: u32) -> u8
     ensures { result ≡ 48 + n % 10 }
 {
-    48 + (n % 10) as u8
+    b'0' + (n % 10) as u8
 }
 
-// J, ten digits of job, three digits of SideNumber if Append is 1, then .jpg.
+// J, ten digits of job, three digits of SideNumber if Append is 1, then .jpg. Digit by digit, as the definition unfolds: an array of the
+// places would write the same places out, and take the digits apart again.
 pub fn present(r: Record) -> Name
     ensures { result ≡ padded (name r) }
 {
-    let j = r.job;
-    let t = r.settings;
-    let d = r.side;
-    let job = j.held;
-    let number = d.number as u32;
+    let job = r.job.held;
+    let number = r.side.number as u32;
     let a = digit(job / 1000000000);
     let b = digit(job / 100000000);
     let c = digit(job / 10000000);
@@ -45,11 +37,15 @@ pub fn present(r: Record) -> Name
     let x = digit(number / 100);
     let y = digit(number / 10);
     let z = digit(number / 1);
-    if t.append == 1 {
-        let bytes = [74, a, b, c, e, f, g, h, i, k, l, x, y, z, 46, 106, 112, 103];
+    if r.settings.append == 1 {
+        let bytes = [
+            b'J', a, b, c, e, f, g, h, i, k, l, x, y, z, b'.', b'j', b'p', b'g',
+        ];
         return Name { bytes, len: MOST };
     }
-    let bytes = [74, a, b, c, e, f, g, h, i, k, l, 46, 106, 112, 103, 0, 0, 0];
+    let bytes = [
+        b'J', a, b, c, e, f, g, h, i, k, l, b'.', b'j', b'p', b'g', 0, 0, 0,
+    ];
     Name { bytes, len: 15 }
 }
 
@@ -61,7 +57,7 @@ fn pair(n: u32) -> u16
     (0x3030 + x + 246 * (x / 10)) as u16
 }
 
-// Four numbers of two bytes as one, the first highest.
+// Four numbers of two bytes as one, the first highest; u64::from_be_bytes would take eight bytes, and each pair come apart again.
 fn joined(a: u16, b: u16, c: u16, d: u16) -> u64
     ensures { result ≡ a * 281474976710656 + b * 4294967296 + c * 65536 + d }
 {
@@ -107,35 +103,9 @@ pub fn kept(job: u32, append: u8, number: u16) -> Named
     }
 }
 
-// One kept name is the other.
-pub fn is_alike(a: Named, b: Named) -> bool
-    ensures { result ≡ alike a b }
-{
-    (a.first == b.first) & (a.second == b.second) & (a.third == b.third) & (a.len == b.len)
-}
-
-// The same bytes. All are compared, so that the compiler compares many at once.
-pub fn is_same(a: &[u8], b: &[u8]) -> bool
-    ensures { result ≡ same a.now b.now }
-{
-    if a.len() != b.len() {
-        return false;
-    }
-    let mut alike = true;
-    let mut i: usize = 0;
-    while i < a.len() {
-        alike = alike & (a[i] == b[i]);
-        i += 1;
-    }
-    alike
-}
-
 // The name is the present one.
 pub fn is_present(called: &[u8], r: Record) -> bool
     ensures { result ≡ same called.now (name r) }
 {
-    let n = present(r);
-    let bytes = n.bytes;
-    let len = n.len;
-    is_same(called, &bytes[..len])
+    called == present(r).as_bytes()
 }

@@ -8,8 +8,7 @@ use Rattle.rules.specs.declared.Record.{Record}
 use Rattle.rules.specs.Record.{sound}
 use Rattle.rules.specs.Calls.{report, Tick}
 use Rattle.rules.specs.Machine.{step}
-use Rattle.answers.specs.declared.After.{After}
-use Rattle.answers.specs.Told.{state_of, gave}
+use Rattle.answers.specs.Told.{After, state_of, gave}
 use Rattle.answers.proofs.Settled.{call_settled}
 
 -- for a record and a ring's length

@@ -9,10 +9,12 @@ use native.Mathlib.Nat.{min-le_left, min-le_right}
 use borrow.Author.Tests.{lt-ltb, le-ltb, ltb-true, leb-true}
 use lib.Dec.{ltb, leb}
 use lib.ListN.{length, get_or, set, take, drop, length-set, length-drop, take-append-drop}
+use borrow.Rule.Slice.PartMut.{put_mid}
+use Rattle.std.proofs.lemmas.Slice.{put_mid-paste}
 use lib.Seq.{drop-cons, sets, sets-eq, paste, paste-zero, length-take-le, take_all, drop-drop, drop_at, take_at}
 use Rattle.rules.specs.declared.Ring.{Ring}
 use Rattle.rules.proofs.Choice.{and_l, and_r}
-use Rattle.ring.specs.Lent.{takes, has, goes_out, take_out}
+use Rattle.ring.specs.Lent.{takes, goes_out, take_out}
 use Rattle.rules.specs.Ring.{next, wrap, put, queue}
 use Rattle.rules.proofs.RingLaws.{wrap-zero, wrap-next, next-lt, length-put, queue-split}
 
@@ -126,49 +128,52 @@ module _ (ring bs : List ℕ) (at : ℕ) (h : at < length ring) (l : length bs �
       (λ e. front ring at (length bs) h l (omega arith))
       ∙ ap (λ (d : List ℕ). paste d 0 (drop near bs) (length bs - near)) (put-straight ring bs at near (run_inside ring at (length bs) h l) le)
 
--- ---- the two ends of `place`
-pub near-place : (n at k : ℕ) → k < n - at → at + k ≡ wrap n (at + k)
-near-place n at k h = simp (lt-ltb (at + k) n (omega arith))
-
-pub far-place : (n at k : ℕ) → at < n → n - at ≤ k → k - (n - at) ≡ wrap n (at + k)
-far-place n at k h l = simp (le-ltb (at + k) n (omega arith)) (omega arith)
-
 -- ---- the end of `fill`, and of `take_out`
-pub fill_end : (ring bs first end : List ℕ) (at near : ℕ) → at < length ring → length bs ≤ length ring → near ≡ min (length bs) (length ring - at)
-    → first ≡ paste ring at bs near → end ≡ paste first 0 (drop near bs) (length bs - near) → end ≡ put ring at bs
-fill_end ring bs first end at near h l n f e = e ∙ rw (f, n) (sym (in-runs ring bs at h l))
+-- a part that holds a run's bytes stands in the whole as the run
+pub run_is : (dst src part : List ℕ) (to n k : ℕ) → n ≤ length src → part ≡ take n src → n ≡ k → put_mid to k dst part ≡ paste dst to src n
+run_is dst src part to n k l e f =
+    let long : length (take n src) ≡ n = length-take-le n src l in
+    put_mid-paste to k dst part (take n src) n e f (sym long)
+    ∙ ap (λ (xs : List ℕ). take to dst ++ xs ++ drop (to + n) dst) (take_all n (take n src) (omega (arith, long)))
+
+pub fill_end : (ring bs first second : List ℕ) (at near k : ℕ) → at < length ring → length bs ≤ length ring → near ≡ min (length bs) (length ring - at)
+    → first ≡ take near bs → second ≡ take (length bs - near) (drop near bs) → near ≡ k → put_mid 0 (length bs - near) (put_mid at k ring first) second ≡ put ring at bs
+fill_end ring bs first second at near k h l n f s e =
+    let m : ℕ = length bs - near in
+    let le : near ≤ length bs = omega (arith, n, min-le_left (length bs) (length ring - at)) in
+    let far : length (drop near bs) ≡ m = length-drop near bs in
+    run_is (put_mid at k ring first) (drop near bs) second 0 m m (omega (arith, far)) s refl
+    ∙ ap (λ (d : List ℕ). paste d 0 (drop near bs) m) (run_is ring bs first at near k le f e)
+    ∙ rw n (sym (in-runs ring bs at h l))
 
 goes_some : (n start want room : ℕ) → start < n → min (min want n) room ≡ goes_out n start want room
 goes_some n start want room h = simp (lt-ltb start n h)
 
-pub goes-is : (n start want room inside k : ℕ) → start < n → inside ≡ min want n → k ≡ min inside room → k ≡ goes_out n start want room
-goes-is n start want room inside k h i e = e ∙ ap (λ (j : ℕ). min j room) i ∙ goes_some n start want room h
-
 pub goes_none : (n start want room : ℕ) → n ≤ start → 0 ≡ goes_out n start want room
 goes_none n start want room h = simp (le-ltb start n h)
 
-pub take-end : (ring out first end : List ℕ) (at want k near : ℕ) → at < length ring → k ≡ goes_out (length ring) at want (length out)
-    → near ≡ min k (length ring - at) → first ≡ paste out 0 (drop at ring) near → end ≡ paste first near ring (k - near)
-    → end ≡ take_out ring at want out
+pub take_end : (ring out first second : List ℕ) (at want k near n : ℕ) → at < length ring → k ≡ min (min want (length ring)) (length out)
+    → near ≡ min k (length ring - at) → first ≡ take n (drop at ring) → second ≡ take (k - near) ring → near ≡ n
+    → put_mid near (k - near) (put_mid 0 near out first) second ≡ take_out ring at want out
 unfolding take_out
-take-end ring out first end at want k near h g n f e =
-    let some : min (min want (length ring)) (length out) ≡ goes_out (length ring) at want (length out) = goes_some (length ring) at want (length out) h in
-    e
-    ∙ rw (f, n) (out-runs ring at k h (omega (arith, g, some)) out (omega (arith, g, some)))
-    ∙ ap (λ (j : ℕ). queue ring at j ++ drop j out) g
+take_end ring out first second at want k near n h g e f s m =
+    let inside : k ≤ length ring = omega arith in
+    let fits : k ≤ length out = omega arith in
+    let le : near ≤ length (drop at ring) = omega (arith, length-drop at ring) in
+    run_is (put_mid 0 near out first) ring second near (k - near) (k - near) (omega arith) s refl
+    ∙ ap (λ (d : List ℕ). paste d near ring (k - near)) (run_is out (drop at ring) first 0 near near le (f ∙ ap (λ (j : ℕ). take j (drop at ring)) (sym m)) refl)
+    ∙ rw e (out-runs ring at k h inside out fits)
+    ∙ ap (λ (j : ℕ). queue ring at j ++ drop j out) (g ∙ goes_some (length ring) at want (length out) h)
 
 pub take_none : (ring out : List ℕ) (at want : ℕ) → length ring ≤ at → out ≡ take_out ring at want out
 unfolding take_out
 take_none ring out at want h = ap (λ (j : ℕ). queue ring at j ++ drop j out) (goes_none (length ring) at want (length out) h)
 
--- ---- what the tests `takes` and `has` say
-three : (a b c d n : ℕ) → (ltb a n && leb b n && leb c d) ≡ true → (a < n) × (b ≤ n) × (c ≤ d)
-three a b c d n e =
-    let ab : (ltb a n && leb b n) ≡ true = and_l (ltb a n && leb b n) (leb c d) e in
-    (ltb-true a n (and_l (ltb a n) (leb b n) ab), leb-true b n (and_r (ltb a n) (leb b n) ab), leb-true c d (and_r (ltb a n && leb b n) (leb c d) e))
-
+-- ---- what the test `takes` says
 pub took : (g : Ring) (n k : ℕ) → takes g n k ≡ true → (g.start < n) × (g.stored ≤ n) × (k ≤ n - g.stored)
-took g n k e = three g.start g.stored k (n - g.stored) n e
-
-pub had : (g : Ring) (n k : ℕ) → has g n k ≡ true → (g.start < n) × (g.stored ≤ n) × (k ≤ g.stored)
-had g n k e = three g.start g.stored k g.stored n e
+took g n k e =
+    let ab : (ltb g.start n && leb g.stored n) ≡ true = and_l (ltb g.start n && leb g.stored n) (leb k (n - g.stored)) e in (
+      ltb-true g.start n (and_l (ltb g.start n) (leb g.stored n) ab),
+      leb-true g.stored n (and_r (ltb g.start n) (leb g.stored n) ab),
+      leb-true k (n - g.stored) (and_r (ltb g.start n && leb g.stored n) (leb k (n - g.stored)) e),
+    )

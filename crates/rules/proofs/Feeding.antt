@@ -8,6 +8,7 @@ use borrow.Author.Tests.{eqb-true}
 use Rattle.rules.specs.declared.Feed.{Feed}
 use Rattle.rules.specs.declared.Feeder.{Feeder}
 use Rattle.rules.specs.declared.Input.{Input}
+use Rattle.rules.specs.declared.Denial.{Denial}
 use Rattle.rules.specs.declared.Fed.{Fed}
 use Rattle.rules.specs.Record.{busy, stuck, on, implies}
 use Rattle.rules.specs.Calls.{n501, n711, n713}
@@ -16,8 +17,8 @@ use Rattle.rules.proofs.Choice.{choice, vacuous, tollens, and_r}
 use Rattle.rules.proofs.Sound.{FeederFit}
 
 -- refused as Busy or as Erred, or as told
-ready-cases : (P : Fed → Type 0) (s : Feed) (x : Fed) → (busy s ≡ true → P (denied n501 s)) → (stuck s ≡ true → P (denied n711 s))
-    → (busy s ≡ false → stuck s ≡ false → P x) → P (ready s x)
+ready-cases : (P : Fed → Type 0) (s : Feed) (x : Fed) → (busy s ≡ true → P (denied Denial.WrongState s))
+    → (stuck s ≡ true → P (denied Denial.Erred s)) → (busy s ≡ false → stuck s ≡ false → P x) → P (ready s x)
 ready-cases P s x b e k = choice P (busy s) b λ f. choice P (stuck s) e (k f)
 
 -- ---- where neither 501 nor 711 is given, the feeder is neither Busy nor Erred, and what is given is what was told

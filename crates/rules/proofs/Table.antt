@@ -1,5 +1,5 @@
 -- The paper's cases: after which calls, which call, and its whole outcome. A definition that is wrong fails at the line of a case.
-use Rattle.std.specs.Prelude.{ℕ, ◌≡◌, refl, Bool, true, false, List, [], ◌∷◌, ◌++◌, map, replicate}
+use Rattle.std.specs.Prelude.{ℕ, ◌≡◌, refl, Bool, true, false, cond, Option, Some, eqb, List, [], ◌∷◌, ◌++◌, map, replicate}
 use Rattle.rules.specs.declared.Scan.{Scan}
 use Rattle.rules.specs.declared.Scan.TheVariants.{Idle, Pending, Scanning, Finishing, Erred}
 use Rattle.rules.specs.declared.Feed.{Feed}
@@ -12,9 +12,10 @@ use Rattle.rules.specs.declared.Settings.{Settings}
 use Rattle.rules.specs.declared.Feeder.{Feeder}
 use Rattle.rules.specs.declared.Ring.{Ring}
 use Rattle.rules.specs.declared.Input.{Input}
+use Rattle.rules.specs.declared.Denial.{Denial}
 use Rattle.rules.specs.declared.Fed.{Fed}
 use Rattle.rules.specs.declared.Record.{Record}
-use Rattle.rules.specs.Feeder.{stands, fails, tray_at, path_at, fed}
+use Rattle.rules.specs.Feeder.{stands, fails, tray_at, path_at, reason_for, fed}
 use Rattle.rules.specs.Moves.{with_scanner, with_job, with_side, with_settings, with_feeder, with_ring, with_names, standing, quiet_at, stop_at, count_at, emptied}
 use Rattle.rules.specs.Moves.{heard, announced, begun, released, ended, timed_out, given, readied, started, stopped, numbered, faulted, waited, moved}
 use Rattle.rules.specs.Moves.{filled, finished, caught, pathed, ticked}
@@ -1205,8 +1206,15 @@ walks =
     ∷ []
 
 -- ---- the feeder's rule, entry by entry: state, input, tray and path sensor; the next state and the number
+-- the denial that a number stands for, 0 for none
+abbrev pub or_denial : Denial → ℕ → Option Denial → Option Denial
+or_denial why n other = cond (eqb n (number_of (reason_for why))) (Some why) other
+
+abbrev pub denial_of : ℕ → Option Denial
+denial_of n = or_denial Denial.WrongState n (or_denial Denial.Erred n (or_denial Denial.NoSheet n Option.None))
+
 abbrev pub ruled : Feed → ℕ → Fed
-ruled x n = record { next = x; number = n }
+ruled x n = record { next = x; denied = denial_of n }
 
 pub feeder_rule : List (Case Fed)
 unfolding final

@@ -1,9 +1,10 @@
 -- The feeder's rule, the moves that speak of the feeder alone, and the sheet tests of a side's beginning.
-use Rattle.std.specs.Prelude.{ℕ, Bool, ◌&&◌, cond, eqb}
+use Rattle.std.specs.Prelude.{ℕ, Bool, false, ◌&&◌, cond, Option, Some, None, eqb}
 use Rattle.rules.specs.declared.Feed.{Feed}
 use Rattle.rules.specs.declared.Failure.{Failure}
 use Rattle.rules.specs.declared.Feeder.{Feeder}
 use Rattle.rules.specs.declared.Input.{Input}
+use Rattle.rules.specs.declared.Denial.{Denial}
 use Rattle.rules.specs.declared.Fed.{Fed}
 use Rattle.rules.specs.Record.{unloaded, busy, stuck, on}
 use Rattle.rules.specs.Calls.{Reason, n501, n711, n713, number_of}
@@ -26,22 +27,28 @@ path_at v f = record { state = f.state; failure = f.failure; tray = f.tray; path
 abbrev pub simplex : ℕ
 simplex = 0
 
--- accepted, and it becomes so; refused, and left so
+-- accepted, and it becomes so; denied, and left so
 abbrev pub becomes : Feed → Fed
-becomes x = record { next = x; number = 0 }
+becomes x = record { next = x; denied = None }
 
-abbrev pub denied : Reason → Feed → Fed
-denied n x = record { next = x; number = number_of n }
+abbrev pub denied : Denial → Feed → Fed
+denied why x = record { next = x; denied = Some why }
+
+-- the paper's number for each denial
+abbrev pub reason_for : Denial → Reason
+reason_for Denial.WrongState = n501
+reason_for Denial.Erred = n711
+reason_for Denial.NoSheet = n713
 
 -- 501 if Busy, 711 if Erred: all as it was
 abbrev pub ready : Feed → Fed → Fed
-ready s x = cond (busy s) (denied n501 s) (cond (stuck s) (denied n711 s) x)
+ready s x = cond (busy s) (denied Denial.WrongState s) (cond (stuck s) (denied Denial.Erred s) x)
 
 -- Load: tray empty: 713 and Unloaded, from Loaded too. Else Loaded
 abbrev pub loads : ℕ → Fed
-loads tray = cond (eqb tray 0) (denied n713 Feed.Unloaded) (becomes Feed.Loaded)
+loads tray = cond (eqb tray 0) (denied Denial.NoSheet Feed.Unloaded) (becomes Feed.Loaded)
 
--- of mode, state, input, tray and path sensor: the next state, and the number
+-- of mode, state, input, tray and path sensor: the next state, and why it is denied
 unfoldable pub fed : ℕ → Feed → Input → ℕ → ℕ → Fed
 -- Load (501 if Busy, 711, 713)
 fed mode s Input.Load tray path = ready s (loads tray)
@@ -49,18 +56,22 @@ fed mode s Input.Load tray path = ready s (loads tray)
 fed mode s Input.EjectOne tray path = ready s (becomes Feed.Unloaded)
 fed mode s Input.EjectAll tray path = ready s (becomes Feed.Unloaded)
 -- Reset (501 if Busy): Erred with path sensor 0 becomes Unloaded. Otherwise accepted, nothing changes
-fed mode s Input.Reset tray path = cond (busy s) (denied n501 s) (becomes (cond (stuck s && eqb path 0) Feed.Unloaded s))
+fed mode s Input.Reset tray path = cond (busy s) (denied Denial.WrongState s) (becomes (cond (stuck s && eqb path 0) Feed.Unloaded s))
 -- Path 1 also makes the feeder Erred
 fed mode s Input.Jam tray path = becomes Feed.Erred
 -- Side ended: Busy becomes Unloaded
 fed mode s Input.SideEnd tray path = becomes (cond (busy s) Feed.Unloaded s)
 
--- what it gives this feeder, and whether that is this number
+-- what it gives this feeder, and whether that is denied with this number
 abbrev pub fed_at : Input → Feeder → Fed
 fed_at i f = fed simplex f.state i f.tray f.path
 
+abbrev pub numbered_as : Reason → Option Denial → Bool
+numbered_as n None = false
+numbered_as n (Some why) = eqb (number_of (reason_for why)) (number_of n)
+
 abbrev pub denies : Reason → Fed → Bool
-denies n d = eqb d.number (number_of n)
+denies n d = numbered_as n d.denied
 
 -- ---- what an input changes besides the state
 -- Reset: Erred becomes Unloaded, none

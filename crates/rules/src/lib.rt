@@ -5,7 +5,7 @@ ghost use Rattle.std.specs.Prelude.{◌≡◌};
 ghost use Rattle.rules.specs.Record.{granting, fresh};
 
 // Scan state.
-#[derive(Clone, Copy)]
+#[derive(Clone, Copy, PartialEq, Eq)]
 pub enum Scan {
     Idle,
     Pending,
@@ -15,7 +15,7 @@ pub enum Scan {
 }
 
 // Feeder state.
-#[derive(Clone, Copy)]
+#[derive(Clone, Copy, PartialEq, Eq)]
 pub enum Feed {
     Unloaded,
     Loaded,
@@ -23,28 +23,29 @@ pub enum Feed {
     Erred,
 }
 
-// FailureCode.
-#[derive(Clone, Copy)]
+// FailureCode. `None` is one of the paper's three, and no Option: cases and the stored form have it beside the others.
+#[derive(Clone, Copy, PartialEq, Eq)]
 pub enum Failure {
     None,
     Jammed,
     Timeout,
 }
 
-#[derive(Clone, Copy)]
+#[derive(Clone, Copy, PartialEq, Eq)]
 pub struct Scanner {
     pub state: Scan,
     pub failure: Failure,
 }
 
 // The granted time.
-#[derive(Clone, Copy)]
+#[derive(Clone, Copy, PartialEq, Eq)]
 pub struct Granted {
     pub seconds: u16,
 }
 
-// The job held (0 for none), the last number given, its time, its quiet seconds, the stop-asked mark.
-#[derive(Clone, Copy)]
+// The job held (0 for none), the last number given, its time, its quiet seconds, the stop-asked mark. Numbers as the paper has them, and
+// marks that are numbers and no bool: any record gets an answer, and soundness tests that a mark, a setting or a sensor is 0 or 1.
+#[derive(Clone, Copy, PartialEq, Eq)]
 pub struct Job {
     pub held: u32,
     pub last: u32,
@@ -54,21 +55,21 @@ pub struct Job {
 }
 
 // UseFeeder and AppendSideNumber.
-#[derive(Clone, Copy)]
+#[derive(Clone, Copy, PartialEq, Eq)]
 pub struct Settings {
     pub feeder: u8,
     pub append: u8,
 }
 
 // Where the stored picture bytes start in the lent ring, and how many there are.
-#[derive(Clone, Copy)]
+#[derive(Clone, Copy, PartialEq, Eq)]
 pub struct Ring {
     pub start: usize,
     pub stored: usize,
 }
 
 // SideNumber, SideCount as the bits of its two's complement, DestinationID.
-#[derive(Clone, Copy)]
+#[derive(Clone, Copy, PartialEq, Eq)]
 pub struct Side {
     pub number: u16,
     pub count: u32,
@@ -76,7 +77,7 @@ pub struct Side {
 }
 
 // The feeder with the tray sensor (MorePages) and the path sensor (1 is jammed).
-#[derive(Clone, Copy)]
+#[derive(Clone, Copy, PartialEq, Eq)]
 pub struct Feeder {
     pub state: Feed,
     pub failure: Failure,
@@ -85,7 +86,7 @@ pub struct Feeder {
 }
 
 // What moves the feeder: Load, Eject one, Eject all, Reset, path 1, side ended.
-#[derive(Clone, Copy)]
+#[derive(Clone, Copy, PartialEq, Eq)]
 pub enum Input {
     Load,
     EjectOne,
@@ -95,15 +96,23 @@ pub enum Input {
     SideEnd,
 }
 
-// What the feeder's rule gives: the next state, and the reason number, 0 where accepted.
-#[derive(Clone, Copy)]
+// Why the feeder's rule denies an input: 501, 711, 713.
+#[derive(Clone, Copy, PartialEq, Eq)]
+pub enum Denial {
+    WrongState,
+    Erred,
+    NoSheet,
+}
+
+// What the feeder's rule gives: the next state, and why the input is denied, where it is. Both, and no Result: 713 has a next state.
+#[derive(Clone, Copy, PartialEq, Eq)]
 pub struct Fed {
     pub next: Feed,
-    pub number: u16,
+    pub denied: Option<Denial>,
 }
 
 // A name in eighteen bytes, unused ones 0, and its length: three numbers, of eight, eight and two bytes, the first byte highest.
-#[derive(Clone, Copy)]
+#[derive(Clone, Copy, PartialEq, Eq)]
 pub struct Named {
     pub first: u64,
     pub second: u64,
@@ -112,12 +121,12 @@ pub struct Named {
 }
 
 // The last name that any job held.
-#[derive(Clone, Copy)]
+#[derive(Clone, Copy, PartialEq, Eq)]
 pub struct Names {
     pub last: Named,
 }
 
-#[derive(Clone, Copy)]
+#[derive(Clone, Copy, PartialEq, Eq)]
 pub struct Record {
     pub scanner: Scanner,
     pub job: Job,
@@ -135,12 +144,12 @@ impl Feeder {
 
 impl Job {
     // The greatest job number.
-    pub const GREATEST: u32 = 4294967295;
+    pub const GREATEST: u32 = u32::MAX;
 }
 
 impl Side {
     // SideCount −1.
-    pub const ENDLESS: u32 = 4294967295;
+    pub const ENDLESS: u32 = u32::MAX;
 
     pub const MOST: u32 = 999;
 
@@ -150,16 +159,6 @@ impl Side {
 impl Settings {
     // Device-setting: keep the setting.
     pub const DEVICE: u8 = 2;
-}
-
-impl Fed {
-    pub const ACCEPTED: u16 = 0;
-
-    pub const WRONG_STATE: u16 = 501;
-
-    pub const ERRED: u16 = 711;
-
-    pub const NO_SHEET: u16 = 713;
 }
 
 impl Ring {
@@ -180,24 +179,12 @@ impl Granted {
     pub fn grant(asked: u32) -> Granted
         ensures { result ≡ granting asked }
     {
-        if asked == 0 {
-            return Granted {
-                seconds: Granted::USUAL,
-            };
-        }
-        if asked < Granted::LEAST as u32 {
-            return Granted {
-                seconds: Granted::LEAST,
-            };
-        }
-        if asked > Granted::MOST as u32 {
-            return Granted {
-                seconds: Granted::MOST,
-            };
-        }
-        Granted {
-            seconds: asked as u16,
-        }
+        let seconds = if asked == 0 {
+            Granted::USUAL
+        } else {
+            asked.clamp(Granted::LEAST.into(), Granted::MOST.into()) as u16
+        };
+        Granted { seconds }
     }
 }
 

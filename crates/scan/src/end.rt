@@ -7,43 +7,45 @@ ghost use Rattle.rules.specs.Calls.{scan, Stop, Abort};
 ghost use Rattle.rules.specs.Machine.{step};
 ghost use Rattle.answers.specs.Told.{state_of, gave};
 
-use answers::{After, Answer, Why};
+use answers::{Answer, Told, Why};
 use rules::Record;
 
-pub fn stop_sound(r: Record, ring: &[u8], job: u32) -> After
-    ensures { sound r (length ring.now) ≡ true
-        → gave result ring.now [] ≡ step (state_of r ring.now) (scan (Stop job)) }
+pub fn stop_sound(r: &mut Record, ring: &[u8], job: u32) -> Answer
+    ensures { sound r.old (length ring.now) ≡ true
+        → gave (record { next = r.new; answer = result }) ring.now [] ≡ step (state_of r.old ring.now) (scan (Stop job)) }
 {
-    if words::not_held(job, r) {
-        return After::refused(Why::OtherJob, r);
+    if words::not_held(job, *r) {
+        return Err(Why::OtherJob);
     }
-    After::told(Answer::Done, jobs::stop(r))
+    *r = jobs::stop(*r);
+    Ok(Told::Done)
 }
 
-pub fn stop(r: Record, ring: &[u8], job: u32) -> After
-    ensures { gave result ring.now [] ≡ step (state_of r ring.now) (scan (Stop job)) }
+pub fn stop(r: &mut Record, ring: &[u8], job: u32) -> Answer
+    ensures { gave (record { next = r.new; answer = result }) ring.now [] ≡ step (state_of r.old ring.now) (scan (Stop job)) }
 {
-    if !sound::sound_with(r, ring) {
-        return After::refused(Why::Unsound, r);
+    if !sound::sound_with(*r, ring) {
+        return Err(Why::Unsound);
     }
     stop_sound(r, ring, job)
 }
 
-pub fn abort_sound(r: Record, ring: &[u8], job: u32) -> After
-    ensures { sound r (length ring.now) ≡ true
-        → gave result ring.now [] ≡ step (state_of r ring.now) (scan (Abort job)) }
+pub fn abort_sound(r: &mut Record, ring: &[u8], job: u32) -> Answer
+    ensures { sound r.old (length ring.now) ≡ true
+        → gave (record { next = r.new; answer = result }) ring.now [] ≡ step (state_of r.old ring.now) (scan (Abort job)) }
 {
-    if words::not_held(job, r) {
-        return After::refused(Why::OtherJob, r);
+    if words::not_held(job, *r) {
+        return Err(Why::OtherJob);
     }
-    After::told(Answer::Done, moves::end(r))
+    *r = moves::end(*r);
+    Ok(Told::Done)
 }
 
-pub fn abort(r: Record, ring: &[u8], job: u32) -> After
-    ensures { gave result ring.now [] ≡ step (state_of r ring.now) (scan (Abort job)) }
+pub fn abort(r: &mut Record, ring: &[u8], job: u32) -> Answer
+    ensures { gave (record { next = r.new; answer = result }) ring.now [] ≡ step (state_of r.old ring.now) (scan (Abort job)) }
 {
-    if !sound::sound_with(r, ring) {
-        return After::refused(Why::Unsound, r);
+    if !sound::sound_with(*r, ring) {
+        return Err(Why::Unsound);
     }
     abort_sound(r, ring, job)
 }

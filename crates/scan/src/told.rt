@@ -7,7 +7,7 @@ ghost use Rattle.rules.specs.Calls.{scan, GetDestination, GetState, GetSideInfor
 ghost use Rattle.rules.specs.Machine.{step};
 ghost use Rattle.answers.specs.Told.{state_of, gave};
 
-use answers::{After, Answer, Why};
+use answers::{Answer, Told, Why};
 use rules::Record;
 
 // The name is that of the record, which stays.
@@ -16,18 +16,18 @@ pub fn get_destination_sound(r: Record, ring: &[u8], job: u32) -> Answer
         → gave (record { next = r; answer = result }) ring.now [] ≡ step (state_of r ring.now) (scan (GetDestination job)) }
 {
     if words::not_held(job, r) {
-        return Answer::Refused(Why::OtherJob);
+        return Err(Why::OtherJob);
     }
-    Answer::Destination(r.side.destination)
+    Ok(Told::Destination(r.side.destination))
 }
 
-pub fn get_destination(r: Record, ring: &[u8], job: u32) -> After
-    ensures { gave result ring.now [] ≡ step (state_of r ring.now) (scan (GetDestination job)) }
+pub fn get_destination(r: Record, ring: &[u8], job: u32) -> Answer
+    ensures { gave (record { next = r; answer = result }) ring.now [] ≡ step (state_of r ring.now) (scan (GetDestination job)) }
 {
     if !sound::sound_with(r, ring) {
-        return After::refused(Why::Unsound, r);
+        return Err(Why::Unsound);
     }
-    After::told(get_destination_sound(r, ring, job), r)
+    get_destination_sound(r, ring, job)
 }
 
 pub fn get_state_sound(r: Record, ring: &[u8]) -> Answer
@@ -35,18 +35,16 @@ pub fn get_state_sound(r: Record, ring: &[u8]) -> Answer
         → gave (record { next = r; answer = result }) ring.now [] ≡ step (state_of r ring.now) (scan GetState) }
 {
     let c = r.scanner;
-    let s = c.state;
-    let why = c.failure;
-    Answer::State(s, why)
+    Ok(Told::State(c.state, c.failure))
 }
 
-pub fn get_state(r: Record, ring: &[u8]) -> After
-    ensures { gave result ring.now [] ≡ step (state_of r ring.now) (scan GetState) }
+pub fn get_state(r: Record, ring: &[u8]) -> Answer
+    ensures { gave (record { next = r; answer = result }) ring.now [] ≡ step (state_of r ring.now) (scan GetState) }
 {
     if !sound::sound_with(r, ring) {
-        return After::refused(Why::Unsound, r);
+        return Err(Why::Unsound);
     }
-    After::told(get_state_sound(r, ring), r)
+    get_state_sound(r, ring)
 }
 
 // ScanLength stays 0.
@@ -55,14 +53,14 @@ pub fn get_side_information_sound(r: Record, ring: &[u8]) -> Answer
         → gave (record { next = r; answer = result }) ring.now [] ≡ step (state_of r ring.now) (scan GetSideInformation) }
 {
     let d = r.side;
-    Answer::Sides(d.number, d.count, 0)
+    Ok(Told::Sides(d.number, d.count, 0))
 }
 
-pub fn get_side_information(r: Record, ring: &[u8]) -> After
-    ensures { gave result ring.now [] ≡ step (state_of r ring.now) (scan GetSideInformation) }
+pub fn get_side_information(r: Record, ring: &[u8]) -> Answer
+    ensures { gave (record { next = r; answer = result }) ring.now [] ≡ step (state_of r ring.now) (scan GetSideInformation) }
 {
     if !sound::sound_with(r, ring) {
-        return After::refused(Why::Unsound, r);
+        return Err(Why::Unsound);
     }
-    After::told(get_side_information_sound(r, ring), r)
+    get_side_information_sound(r, ring)
 }

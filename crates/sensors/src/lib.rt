@@ -5,40 +5,38 @@ ghost use Rattle.std.specs.Prelude.{◌≡◌, true, cond, ◌+◌, leb};
 ghost use Rattle.rules.specs.Moves.{finished, side_ended, feeds, caught, pathed, timed_out, quiet_at, ticked};
 ghost use Rattle.moves.specs.Holds.{is_named};
 
-use rules::{Input, Record, Ring};
+use rules::{Input, Record, Ring, Scan};
 
 // Busy becomes Unloaded, SideCount falls, Finishing; a sign of life.
 #[tactic(auto, unfolding(rules::specs::Moves::finished))]
 fn finish(r: Record) -> Record
     ensures { result ≡ finished r }
 {
-    let count = sides::fall(r.side.count);
     let mut n = moves::feed(Input::SideEnd, r);
-    n.side.count = count;
+    n.side.count = sides::fall(r.side.count);
     n.job.quiet = 0;
-    moves::stand(rules::Scan::Finishing, n)
+    moves::stand(Scan::Finishing, n)
 }
 
-// If the ring is empty the drain step follows at once; of a record whose last name is its own.
+// If the ring is empty the drain step follows at once; of a record whose last name is its own. That stays a condition in the contract: a
+// type would ask more of callers, who bring any record.
 #[tactic(auto, using(rules::proofs::Guards::guards, rules::proofs::Guards::numbers), unfolding(rules::specs::Moves::side_ended, rules::specs::Moves::finished))]
 pub fn end_side(r: Record) -> Record
     ensures { is_named r ≡ true → result ≡ side_ended r }
 {
-    let g = r.ring;
     let n = finish(r);
-    if g.stored == 0 {
-        return moves::drain(n);
+    if r.ring.stored == 0 {
+        moves::drain(n)
+    } else {
+        n
     }
-    n
 }
 
 // Scanning from the feeder.
 fn is_fed(r: Record) -> bool
     ensures { result ≡ feeds r }
 {
-    let c = r.scanner;
-    let s = c.state;
-    words::is_scanning(s) & (r.settings.feeder == 1)
+    (r.scanner.state == Scan::Scanning) & (r.settings.feeder == 1)
 }
 
 // The jam of a sheet that is being scanned: the ring is emptied and an asked stop forgotten; a sign of life.
@@ -48,11 +46,10 @@ fn catch(r: Record) -> Record
     let mut n = moves::feed(Input::Jam, r);
     n.job.quiet = 0;
     n.job.stop = 0;
-    let ring = Ring {
+    n.ring = Ring {
         start: 0,
         stored: 0,
     };
-    n.ring = ring;
     moves::fault(n)
 }
 
@@ -67,11 +64,10 @@ pub fn set_path(value: u8, r: Record) -> Record
         }
         return moves::feed(Input::Jam, r);
     }
-    let was = r.feeder;
-    moves::with_feeder(feeding::set_path(0, was), r)
+    moves::with_feeder(feeding::set_path(0, r.feeder), r)
 }
 
-// Held: quiet plus 1; where that is due, the job ends by time.
+// Held: quiet plus 1; where that is due, the job ends by time. By way of 32 bits, which takes two instructions fewer than `saturating_add`.
 fn pass_second(due: u16, r: Record) -> Record
     ensures { result ≡ cond (leb due (r.job.quiet + 1)) (timed_out r) (quiet_at (r.job.quiet + 1) r) }
 {
@@ -87,12 +83,8 @@ fn pass_second(due: u16, r: Record) -> Record
 pub fn tick(r: Record) -> Record
     ensures { result ≡ ticked r }
 {
-    let c = r.scanner;
-    let s = c.state;
-    let granted = r.job.granted.seconds;
-    if words::is_idle(s) {
+    if r.scanner.state == Scan::Idle {
         return r;
     }
-    let due = words::limit_of(s, granted);
-    pass_second(due, r)
+    pass_second(words::limit_of(r.scanner.state, r.job.granted.seconds), r)
 }

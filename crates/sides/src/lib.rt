@@ -10,7 +10,7 @@ use rules::{Settings, Side};
 pub fn raise(d: u32) -> u32
     ensures { result ≡ risen d }
 {
-    std::num::wrapping_add_u32(d, 1)
+    d.wrapping_add(1)
 }
 
 // 2 keeps the setting.
@@ -28,13 +28,11 @@ pub fn settle(asked: u8, kept: u8) -> u8
 pub fn stored_sides(from: u8, asked: u32) -> u32
     ensures { result ≡ stored_sides from asked }
 {
-    if from == 1 {
-        return asked;
+    if (from != 1) & (asked == Side::ENDLESS) {
+        1
+    } else {
+        asked
     }
-    if asked == Side::ENDLESS {
-        return 1;
-    }
-    asked
 }
 
 // A positive SideCount falls by one, −1 stays.
@@ -42,10 +40,8 @@ pub fn fall(count: u32) -> u32
     ensures { result ≡ fallen count }
 {
     if count == Side::ENDLESS {
-        return count;
+        count
+    } else {
+        count.saturating_sub(1)
     }
-    if count == 0 {
-        return 0;
-    }
-    count - 1
 }

@@ -18,10 +18,10 @@ use Rattle.rules.specs.Record.{every}
 use Rattle.rules.specs.Moves.{with_ring, with_feeder, quiet_at}
 use Rattle.rules.proofs.Sound.{holds, all}
 use Rattle.stored.specs.Stored.{scan_number, feed_number, failure_number, scan_at, feed_at, failure_at, number_at, from, written, word_count, version, kept}
-use Rattle.stored.specs.Stored.{scanner_at, scanner_kept, job_at, job_kept, job_fits, side_at, side_kept, side_fits, settings_at, settings_kept}
-use Rattle.stored.specs.Stored.{settings_fits, feeder_at, feeder_kept, feeder_fits, ring_at, ring_kept, wide16, heard_in, fed_in}
+use Rattle.stored.specs.Stored.{scanner_at, scanner_kept, scanner_fits, job_at, job_kept, job_fits, side_at, side_kept, side_fits}
+use Rattle.stored.specs.Stored.{settings_at, settings_kept, settings_fits, feeder_at, feeder_kept, feeder_fits, ring_at, ring_kept, wide16, heard_in, fed_in}
 use Rattle.stored.specs.Stored.{names_at, names_kept, names_fits, fitting, all_fit, recorded}
-use Rattle.stored.proofs.Widths.{scanner-below, feeder-below, scanner-fits, quiet-fits}
+use Rattle.stored.proofs.Widths.{scanner-below, feeder-below, quiet-fits}
 use Rattle.stored.proofs.Rows.{row-whole}
 
 -- ---- states and codes
@@ -79,11 +79,12 @@ module _ (r : Record) where
   unfolding kept
   row_kept ws l p q s t u v x = x ∙ rw (v, u, t, s, q, p) (row-whole (kept r) ws l)
 
-  pub kept-fits : every (job_fits (number_at (job_kept r.job))) ≡ true → every (side_fits (number_at (side_kept r.side))) ≡ true
+  pub kept-fits : every (scanner_fits (number_at (scanner_kept r.scanner))) ≡ true → every (job_fits (number_at (job_kept r.job))) ≡ true
+      → every (side_fits (number_at (side_kept r.side))) ≡ true
       → every (settings_fits (number_at (settings_kept r.settings))) ≡ true → every (feeder_fits (number_at (feeder_kept r.feeder))) ≡ true
       → every (names_fits (number_at (names_kept r.names))) ≡ true → all_fit (kept r) ≡ true
   unfolding kept all_fit
-  kept-fits j d t f m = all (fitting (kept r)) (refl, (scanner-fits r.scanner, (j, (d, (t, (f, (m, tt)))))))
+  kept-fits c j d t f m = all (fitting (kept r)) (refl, (c, (j, (d, (t, (f, (m, tt)))))))
 
   pub recorded-kept : recorded (kept r) ≡ r
   unfolding kept recorded

@@ -1,7 +1,7 @@
 -- Numbers that are a box: they fit, and their record is sound.
 use Prim.Native.Nat.{ℕ}
 use mathlib.Core.Path.{◌≡◌, sym, ap, ◌∙◌}
-use mathlib.Core.Bool.{Bool, true, false, ◌&&◌}
+use mathlib.Core.Bool.{Bool, true, ◌&&◌}
 use mathlib.Core.List.{List}
 use Rattle.rules.specs.declared.Record.{Record}
 use Rattle.rules.specs.Record.{sound}
@@ -21,10 +21,6 @@ unfolding is_box
 boxed ws n f s = ap (λ (b : Bool). b && sound (recorded ws) n) f ∙ s
 
 -- whether numbers are a box
-pub unfit : (ws : List ℕ) (n : ℕ) → all_fit ws ≡ false → false ≡ is_box ws n
-unfolding is_box
-unfit ws n e = sym (ap (λ (b : Bool). b && sound (recorded ws) n) e)
-
 pub as-sound : (ws : List ℕ) (n : ℕ) {r : Record} {b : Bool} → all_fit ws ≡ true → r ≡ recorded ws → b ≡ sound r n → b ≡ is_box ws n
 unfolding is_box
 as-sound ws n f e s = s ∙ ap (λ (x : Record). sound x n) e ∙ sym (ap (λ (x : Bool). x && sound (recorded ws) n) f)

@@ -1,10 +1,10 @@
 // The last name: its first eight bytes, eight more and the last two, and its length, which is at most eighteen.
-ghost use Rattle.std.specs.Prelude.{◌≡◌, true, ◌≤◌};
+ghost use Rattle.std.specs.Prelude.{◌≤◌};
 ghost use Rattle.rules.specs.Name.{name_room};
-ghost use Rattle.rules.specs.Record.{every};
-ghost use Rattle.stored.specs.Stored.{number_at, from, written, names_at, names_kept, names_fits, names_in};
+ghost use Rattle.stored.specs.Stored.{names_at, names_kept, names_fits, names_in};
 
-use crate::fields::{byte, of_byte, of_word, word};
+use crate::fields::Field;
+use crate::part::Part;
 use crate::{WORDS, at_ring};
 use rules::{Named, Names};
 
@@ -23,31 +23,36 @@ const LENGTH: usize = 4;
 
 pub(crate) const END: usize = AT + LENGTH;
 
-pub(crate) fn fits(w: &[u64; WORDS]) -> bool
-    ensures { result ≡ every (names_fits (from w.now names_at)) }
-{
-    (w[THIRD] < 65536) & (w[LEN] <= 18)
-}
+impl Part for Names {
+    ghost at = { names_at };
 
-pub(crate) fn load(w: &[u64; WORDS]) -> Names
-    ensures { every (names_fits (from w.now names_at)) ≡ true → result ≡ names_in (from w.now names_at) }
-{
-    let last = Named {
-        first: w[FIRST],
-        second: w[SECOND],
-        third: word(w[THIRD]),
-        len: byte(w[LEN]),
-    };
-    Names { last }
-}
+    ghost row = { names_kept };
 
-pub(crate) fn keep(w: &mut [u64; WORDS], m: Names)
-    ensures w_after { w.new ≡ written names_at (names_kept m) w.old }
-    ensures m_value { m.last.len ≤ name_room → every (names_fits (number_at (names_kept m))) ≡ true }
-{
-    let n = m.last;
-    w[FIRST] = n.first;
-    w[SECOND] = n.second;
-    w[THIRD] = of_word(n.third);
-    w[LEN] = of_byte(n.len);
+    ghost fitting = { names_fits };
+
+    ghost read = { names_in };
+
+    ghost whole = { λ m. m.last.len ≤ name_room };
+
+    fn fits(w: &[u64; WORDS]) -> bool {
+        u16::fits(w[THIRD]) & (w[LEN] <= 18)
+    }
+
+    fn load(w: &[u64; WORDS]) -> Names {
+        Names {
+            last: Named {
+                first: w[FIRST],
+                second: w[SECOND],
+                third: Field::of(w[THIRD]),
+                len: Field::of(w[LEN]),
+            },
+        }
+    }
+
+    fn keep(self, w: &mut [u64; WORDS]) {
+        w[FIRST] = self.last.first;
+        w[SECOND] = self.last.second;
+        w[THIRD] = self.last.third.number();
+        w[LEN] = self.last.len.number();
+    }
 }

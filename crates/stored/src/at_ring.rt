@@ -1,8 +1,8 @@
 // Where the stored picture bytes start in the lent ring, and how many there are: as wide as a number, so that they always fit.
-ghost use Rattle.std.specs.Prelude.{◌≡◌};
-ghost use Rattle.stored.specs.Stored.{from, written, ring_at, ring_kept, ring_in};
+ghost use Rattle.std.specs.Prelude.{[]};
+ghost use Rattle.stored.specs.Stored.{ring_at, ring_kept, ring_in};
 
-use crate::fields::of_place;
+use crate::part::Part;
 use crate::{WORDS, at_feeder};
 use rules::Ring;
 
@@ -17,18 +17,29 @@ const LENGTH: usize = 2;
 
 pub(crate) const END: usize = AT + LENGTH;
 
-pub(crate) fn load(w: &[u64; WORDS]) -> Ring
-    ensures { result ≡ ring_in (from w.now ring_at) }
-{
-    Ring {
-        start: w[START] as usize,
-        stored: w[STORED] as usize,
-    }
-}
+impl Part for Ring {
+    ghost at = { ring_at };
 
-pub(crate) fn keep(w: &mut [u64; WORDS], g: Ring)
-    ensures { w.new ≡ written ring_at (ring_kept g) w.old }
-{
-    w[START] = of_place(g.start);
-    w[STORED] = of_place(g.stored);
+    ghost row = { ring_kept };
+
+    ghost fitting = { λ _. [] };
+
+    ghost read = { ring_in };
+
+    // Any two numbers do.
+    fn fits(_w: &[u64; WORDS]) -> bool {
+        true
+    }
+
+    fn load(w: &[u64; WORDS]) -> Ring {
+        Ring {
+            start: w[START] as usize,
+            stored: w[STORED] as usize,
+        }
+    }
+
+    fn keep(self, w: &mut [u64; WORDS]) {
+        w[START] = self.start as u64;
+        w[STORED] = self.stored as u64;
+    }
 }

@@ -1,10 +1,10 @@
 // Scan state and FailureCode, behind the version.
-ghost use Rattle.std.specs.Prelude.{◌≡◌};
-ghost use Rattle.rules.specs.Record.{every};
-ghost use Rattle.stored.specs.Stored.{from, written, scanner_at, scanner_kept, scanner_fits, scanner_in};
+ghost use Rattle.stored.specs.Stored.{scanner_at, scanner_kept, scanner_fits, scanner_in};
 
-use crate::{WORDS, codes};
-use rules::Scanner;
+use crate::WORDS;
+use crate::fields::Field;
+use crate::part::Part;
+use rules::{Failure, Scan, Scanner};
 
 const AT: usize = 1;
 
@@ -17,25 +17,28 @@ const LENGTH: usize = 2;
 
 pub(crate) const END: usize = AT + LENGTH;
 
-pub(crate) fn fits(w: &[u64; WORDS]) -> bool
-    ensures { result ≡ every (scanner_fits (from w.now scanner_at)) }
-{
-    (w[STATE] < 5) & (w[FAILURE] < 3)
-}
+impl Part for Scanner {
+    ghost at = { scanner_at };
 
-pub(crate) fn load(w: &[u64; WORDS]) -> Scanner
-    ensures { result ≡ scanner_in (from w.now scanner_at) }
-{
-    let state = codes::scan_of(w[STATE]);
-    let failure = codes::failure_of(w[FAILURE]);
-    Scanner { state, failure }
-}
+    ghost row = { scanner_kept };
 
-pub(crate) fn keep(w: &mut [u64; WORDS], c: Scanner)
-    ensures { w.new ≡ written scanner_at (scanner_kept c) w.old }
-{
-    let state = c.state;
-    let failure = c.failure;
-    w[STATE] = codes::scan_number(state);
-    w[FAILURE] = codes::failure_number(failure);
+    ghost fitting = { scanner_fits };
+
+    ghost read = { scanner_in };
+
+    fn fits(w: &[u64; WORDS]) -> bool {
+        Scan::fits(w[STATE]) & Failure::fits(w[FAILURE])
+    }
+
+    fn load(w: &[u64; WORDS]) -> Scanner {
+        Scanner {
+            state: Field::of(w[STATE]),
+            failure: Field::of(w[FAILURE]),
+        }
+    }
+
+    fn keep(self, w: &mut [u64; WORDS]) {
+        w[STATE] = self.state.number();
+        w[FAILURE] = self.failure.number();
+    }
 }

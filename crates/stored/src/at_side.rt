@@ -1,9 +1,8 @@
 // SideNumber, SideCount, DestinationID.
-ghost use Rattle.std.specs.Prelude.{◌≡◌, true};
-ghost use Rattle.rules.specs.Record.{every};
-ghost use Rattle.stored.specs.Stored.{number_at, from, written, side_at, side_kept, side_fits, side_in};
+ghost use Rattle.stored.specs.Stored.{side_at, side_kept, side_fits, side_in};
 
-use crate::fields::{long, of_long, of_word, word};
+use crate::fields::Field;
+use crate::part::Part;
 use crate::{WORDS, at_job};
 use rules::Side;
 
@@ -20,27 +19,30 @@ const LENGTH: usize = 3;
 
 pub(crate) const END: usize = AT + LENGTH;
 
-pub(crate) fn fits(w: &[u64; WORDS]) -> bool
-    ensures { result ≡ every (side_fits (from w.now side_at)) }
-{
-    (w[NUMBER] < 65536) & (w[COUNT] < 4294967296) & (w[DESTINATION] < 4294967296)
-}
+impl Part for Side {
+    ghost at = { side_at };
 
-pub(crate) fn load(w: &[u64; WORDS]) -> Side
-    ensures { every (side_fits (from w.now side_at)) ≡ true → result ≡ side_in (from w.now side_at) }
-{
-    Side {
-        number: word(w[NUMBER]),
-        count: long(w[COUNT]),
-        destination: long(w[DESTINATION]),
+    ghost row = { side_kept };
+
+    ghost fitting = { side_fits };
+
+    ghost read = { side_in };
+
+    fn fits(w: &[u64; WORDS]) -> bool {
+        u16::fits(w[NUMBER]) & u32::fits(w[COUNT]) & u32::fits(w[DESTINATION])
     }
-}
 
-pub(crate) fn keep(w: &mut [u64; WORDS], d: Side)
-    ensures w_after { w.new ≡ written side_at (side_kept d) w.old }
-    ensures d_value { every (side_fits (number_at (side_kept d))) ≡ true }
-{
-    w[NUMBER] = of_word(d.number);
-    w[COUNT] = of_long(d.count);
-    w[DESTINATION] = of_long(d.destination);
+    fn load(w: &[u64; WORDS]) -> Side {
+        Side {
+            number: Field::of(w[NUMBER]),
+            count: Field::of(w[COUNT]),
+            destination: Field::of(w[DESTINATION]),
+        }
+    }
+
+    fn keep(self, w: &mut [u64; WORDS]) {
+        w[NUMBER] = self.number.number();
+        w[COUNT] = self.count.number();
+        w[DESTINATION] = self.destination.number();
+    }
 }

@@ -1,10 +1,10 @@
 // Damaged input: every prefix of a stream, and the stream with one byte changed. A walk of its own, written from the form of a
 // record, says which records are whole and where the first bad one begins; the lines are held to the whole stream's right text.
 use crate::cuts::are_right;
-use crate::files::{behind, part};
-use crate::{Tally, say, say_count};
+use crate::files::lines;
+use crate::{Case, Tally};
+use desk_stream::Came;
 use std::io;
-use stored::WORDS;
 
 // How many records are whole, and the place behind them: a bad one's, or the end.
 #[derive(Clone, Copy)]
@@ -17,7 +17,14 @@ struct Reach {
 #[derive(Clone, Copy)]
 struct Spot {
     at: usize,
-    bits: u8,
+    bits: Option<u8>,
+}
+
+// Which bytes are changed: each in turn, or every seventh.
+#[derive(Clone, Copy)]
+pub enum Which {
+    Each,
+    Seventh,
 }
 
 // Whether the paper lists a kind with a payload length.
@@ -35,137 +42,150 @@ fn is_listed(kind: u8, len: u8) -> bool {
     }
 }
 
-fn wide(x: u8) -> usize {
-    x as usize
-}
-
-// How many bytes the record at the front has, 0 where it is bad.
-fn size(s: &[u8]) -> usize {
-    if s.len() < 4 {
-        return 0;
-    }
-    let n = wide(s[3]);
-    if (s[0] != 0xA5) | (s[1] != 0x5A) | !is_listed(s[2], s[3]) {
-        return 0;
-    }
-    if s.len() - 4 < n { 0 } else { 4 + n }
+// How many bytes the record at the front has, where it is whole and not bad.
+fn size(s: &[u8]) -> Option<usize> {
+    let (&[first, second, kind, len], payload) = s.split_first_chunk::<4>()?;
+    let n = usize::from(len);
+    let is_good = (first == 0xA5) & (second == 0x5A) & is_listed(kind, len) & (n <= payload.len());
+    is_good.then_some(4 + n)
 }
 
 fn walk(s: &[u8]) -> Reach {
-    let mut records: usize = 0;
-    let mut at: usize = 0;
-    let mut n = size(s);
-    while records < s.len() && n > 0 {
-        records += 1;
-        at = std::num::wrapping_add_usize(at, n);
-        n = size(part(s, at, s.len()));
+    let mut w = Reach { records: 0, at: 0 };
+    for _ in s {
+        let Some(n) = s.get(w.at..).and_then(size) else {
+            break;
+        };
+        w = Reach {
+            records: w.records.saturating_add(1),
+            at: w.at.saturating_add(n),
+        };
     }
-    Reach { records, at }
+    w
 }
 
 // Whether a text is a line for each whole record, the first of them as in the right text, and behind them nothing but the bad
 // line that the walk tells: a bad line is the only one with a `b`.
 fn is_told(said: &[u8], right: &[u8], same: usize, w: Reach, is_bad: bool) -> bool {
+    let (Some(first), Some(all)) = (lines(right, same), lines(said, w.records)) else {
+        return false;
+    };
     let mut line = [0u8; 32];
     let offset = desk_text::put_bytes(&mut line, 0, b"bad ");
-    let behind_it = desk_text::put_decimal(&mut line, offset, w.at as u64);
-    let end = desk_text::put_byte(&mut line, behind_it, b'\n');
-    let first = behind(right, 0, same, b'\n');
-    let all = behind(said, 0, w.records, b'\n');
-    let is_same = check::same(part(said, 0, first), part(right, 0, first));
-    let rest = part(&line, 0, if is_bad { end } else { 0 });
-    let is_ended = check::same(part(said, all, said.len()), rest);
-    (first <= right.len()) & (all < behind(said, first, 1, b'b')) & is_same & is_ended
+    let behind = desk_text::put_decimal(&mut line, offset, w.at as u64);
+    let end = desk_text::put_byte(&mut line, behind, b'\n');
+    let bad = line.get(..if is_bad { end } else { 0 });
+    let is_same = said.get(..first) == right.get(..first);
+    let is_answered = said.get(first..all).is_some_and(|s| !s.contains(&b'b'));
+    is_same & is_answered & (said.get(all..) == bad)
 }
 
-fn flip(s: &mut [u8], c: Spot) {
-    let at = c.at;
-    if at < s.len() {
-        s[at] = s[at] ^ c.bits;
-    }
+fn tell(rt: &impl Print, c: Spot) -> io::Result<()> {
+    let Spot { at, bits } = c;
+    let bits = bits.unwrap_or(0);
+    print!(rt; "with byte {at} changed by {bits}; ")
 }
 
-fn shown(s: &[u8], c: Spot) -> &[u8] {
-    if c.bits > 0 {
-        return s;
-    }
-    part(s, 0, c.at)
-}
-
-pub fn add(n: u64, holds: bool) -> u64 {
-    std::num::wrapping_add_u64(n, holds as u64)
-}
-
-fn tell(rt: &impl Print, is_right: bool, c: Spot) -> io::Result<()> {
-    if !is_right {
-        say_count(rt, b"with byte ", c.at as u64)?;
-        say_count(rt, b" changed by ", c.bits as u64)?;
-        say(rt, b"; ")?;
-    }
-    Ok(())
-}
-
-// Tries a damaged stream: what stands before the damaged record is answered as before, and the rest as the walk tells.
+// Tries a damaged stream: what stands before the damaged record is answered as before, and the rest as the walk tells. A refusal reads
+// and writes nothing.
 fn tried(
     rt: &impl Print,
-    start: &[u64; WORDS],
-    ring: &mut [u8],
+    case: &mut Case<'_, '_>,
     s: &[u8],
-    right: &[u8],
     c: Spot,
-    t: Tally,
-) -> io::Result<Tally> {
-    let before = walk(part(s, 0, c.at));
+    t: &mut Tally,
+) -> io::Result<bool> {
+    let before = walk(s.get(..c.at).unwrap_or(&[]));
     let w = walk(s);
     let is_bad = w.at < s.len();
     let mut out = [0u8; 16384];
-    let mut words = *start;
-    let came = desk_stream::serve(&mut words, ring, s, 0, true, &mut out);
-    let is_reached = (came.read == w.at) & (came.ended == is_bad) & (before.at <= w.at);
-    let said = part(&out, 0, came.written);
-    let mut all = t;
-    all.right = is_reached & is_told(said, right, before.records, w, is_bad);
-    tell(rt, all.right, c)?;
-    all.prefixes = add(t.prefixes, c.bits == 0);
-    all.answered = add(t.answered, (c.bits > 0) & !is_bad);
-    all.bad = add(t.bad, (c.bits > 0) & is_bad);
-    Ok(all)
-}
-
-// The next damage. With `every` 1 each byte gets its 255 other values, else every seventh byte five of them.
-fn onward(c: Spot, every: u64, len: usize) -> Spot {
-    let step = if every == 1 { 1 } else { 51 };
-    let is_tried = (c.at < len) & ((every == 1) | (c.at % 7 == 0));
-    let mut next = c;
-    if is_tried & (c.bits <= 255 - step) {
-        next.bits = std::num::wrapping_add_u8(c.bits, step);
-        return next;
+    let mut words = case.start;
+    let came = desk_stream::serve(&mut words, case.ring, s, 0, true, &mut out).unwrap_or(Came {
+        read: 0,
+        written: 0,
+        ended: false,
+    });
+    let said = out.get(..came.written).unwrap_or(&[]);
+    let is_right = (came.read == w.at)
+        & (came.ended == is_bad)
+        & (before.at <= w.at)
+        & is_told(said, case.right, before.records, w, is_bad);
+    match c.bits {
+        None => t.prefixes = t.prefixes.saturating_add(1),
+        Some(_) if is_bad => t.bad = t.bad.saturating_add(1),
+        Some(_) => t.answered = t.answered.saturating_add(1),
     }
-    next.bits = 0;
-    next.at = std::num::wrapping_add_usize(c.at, 1);
-    next
+    if !is_right {
+        tell(rt, c)?;
+    }
+    Ok(is_right)
 }
 
-// Tries a stream in cuts, and where `every` is not 0 with damage.
+// Tries a stream as a damage leaves it.
+fn damaged(
+    rt: &impl Print,
+    case: &mut Case<'_, '_>,
+    s: &mut [u8],
+    c: Spot,
+    t: &mut Tally,
+) -> io::Result<bool> {
+    let Some(bits) = c.bits else {
+        return tried(rt, case, s.get(..c.at).unwrap_or(&[]), c, t);
+    };
+    flip(s, c.at, bits);
+    let is_right = tried(rt, case, s, c, t)?;
+    flip(s, c.at, bits);
+    Ok(is_right)
+}
+
+fn flip(s: &mut [u8], at: usize, bits: u8) {
+    if let Some(b) = s.get_mut(at) {
+        *b ^= bits;
+    }
+}
+
+// The next damage: the byte gets the 255 other values where each is changed, five of them where every seventh is.
+fn onward(c: Spot, which: Which, len: usize) -> Spot {
+    let (is_changed, step) = match which {
+        Which::Each => (true, 1),
+        Which::Seventh => (c.at % 7 == 0, 51),
+    };
+    match c.bits.unwrap_or(0).checked_add(step) {
+        Some(bits) if is_changed & (c.at < len) => Spot {
+            at: c.at,
+            bits: Some(bits),
+        },
+        _ => Spot {
+            at: c.at.saturating_add(1),
+            bits: None,
+        },
+    }
+}
+
+// Tries a stream in cuts, and where bytes are changed with damage: each prefix, and these bytes.
 pub fn hold(
     rt: &impl Print,
-    start: &[u64; WORDS],
-    ring: &mut [u8],
+    case: &mut Case<'_, '_>,
     s: &mut [u8],
-    right: &[u8],
-    every: u64,
-    t: Tally,
-) -> io::Result<Tally> {
-    let mut all = t;
-    all.right = are_right(rt, start, ring, s, right)?;
-    let mut c = Spot { at: 0, bits: 0 };
-    let mut left: usize = 1000000;
-    while left > 0 && every > 0 && all.right && c.at <= s.len() {
-        flip(s, c);
-        all = tried(rt, start, ring, shown(s, c), right, c, all)?;
-        flip(s, c);
-        c = onward(c, every, s.len());
-        left -= 1;
+    changed: Option<Which>,
+    t: &mut Tally,
+) -> io::Result<bool> {
+    if !are_right(rt, case, s)? {
+        return Ok(false);
     }
-    Ok(all)
+    let Some(which) = changed else {
+        return Ok(true);
+    };
+    let mut c = Spot { at: 0, bits: None };
+    // So many turns at most: what a long stream has beyond them is not tried.
+    for _ in 0..1000000 {
+        if s.len() < c.at {
+            break;
+        }
+        if !damaged(rt, case, s, c, t)? {
+            return Ok(false);
+        }
+        c = onward(c, which, s.len());
+    }
+    Ok(true)
 }

@@ -1,64 +1,30 @@
-// The files of data/: bytes, hexadecimal digits, and the words of the list.
+// The files of data/: bytes, hexadecimal digits, and the list.
 use crate::ROOM;
 use std::io::Read;
 use std::rt::Files;
 use std::{fs, io, str};
 
-pub const NOWHERE: usize = 18446744073709551615;
-
-// The bytes from `at` to `end`, or none where there are no such.
-pub fn part(s: &[u8], at: usize, end: usize) -> &[u8] {
-    if s.len() < end {
-        return &s[..0];
+// How many bytes the first `n` lines have, where there are so many.
+pub fn lines(s: &[u8], n: usize) -> Option<usize> {
+    let mut at: usize = 0;
+    for _ in 0..n {
+        let line = s.get(at..)?.iter().position(|&b| b == b'\n')?;
+        at = at.saturating_add(line).saturating_add(1);
     }
-    if end < at {
-        return &s[..0];
-    }
-    &s[at..end]
+    Some(at)
 }
 
-// The place behind the `n`th `mark` from a place on, or NOWHERE.
-pub fn behind(s: &[u8], at: usize, n: usize, mark: u8) -> usize {
-    let mut left = n;
-    let mut i = at;
-    while left > 0 {
-        if s.len() <= i {
-            return NOWHERE;
-        }
-        if s[i] == mark {
-            left -= 1;
-        }
-        i += 1;
-    }
-    i
+// A word, up to the first mark, and what stands behind the mark. Where there is no mark, both are empty.
+pub fn word(s: &[u8], mark: u8) -> (&[u8], &[u8]) {
+    let Some(at) = s.iter().position(|&b| b == mark) else {
+        return (&[], &[]);
+    };
+    let rest = s.get(at.saturating_add(1)..);
+    (s.get(..at).unwrap_or(&[]), rest.unwrap_or(&[]))
 }
 
-// The word from a place to the mark before `end`.
-pub fn word(s: &[u8], at: usize, end: usize) -> &[u8] {
-    part(s, at, std::num::wrapping_sub_usize(end, 1))
-}
-
-// A digit's value, 16 for any other byte.
-fn digit(b: u8) -> u8 {
-    match b {
-        b'0'..=b'9' => b - 48,
-        b'A'..=b'F' => b - 55,
-        _ => 16,
-    }
-}
-
-// The number that some digits say, as far as it has ten.
-pub fn number(s: &[u8]) -> u64 {
-    let mut n: u64 = 0;
-    let mut i: usize = 0;
-    while i < s.len() {
-        n = n % 1000000000 * 10 + digit(s[i]) as u64;
-        i += 1;
-    }
-    n
-}
-
-// Reads until the buffer is full, the file ends or a read fails, and answers how many bytes it put at the buffer's front.
+// Reads until the buffer is full, the file ends or a read fails, and answers how many bytes it put at the buffer's front. How far a
+// step goes is the read's to tell, so it is no `for`.
 fn read_full(file: &mut impl Read, buf: &mut [u8]) -> usize {
     let mut done: usize = 0;
     while done < buf.len() {
@@ -70,68 +36,86 @@ fn read_full(file: &mut impl Read, buf: &mut [u8]) -> usize {
     done
 }
 
-// A file's bytes, and their number; the buffer's length where there is no such file, or it does not fit. A path is text: where the
+// How many of a file's bytes are read, as many as the buffer has at most; nothing where there is no such file. A path is text: where the
 // bytes are none, it is the empty one, which no file has.
 pub fn load(
     rt: &(impl Files + Eprint),
     name: &[u8],
     kind: &[u8],
     buf: &mut [u8],
-) -> io::Result<usize> {
+) -> io::Result<Option<usize>> {
     let mut bytes = [0u8; 64];
-    let a = desk_text::put_bytes(&mut bytes, 0, name);
-    let b = desk_text::put_bytes(&mut bytes, a, kind);
-    let path = str::from_utf8(part(&bytes, 0, b)).unwrap_or("");
+    let stem = desk_text::put_bytes(&mut bytes, 0, name);
+    let end = desk_text::put_bytes(&mut bytes, stem, kind);
+    let path = bytes
+        .get(..end)
+        .and_then(|b| str::from_utf8(b).ok())
+        .unwrap_or("");
     match fs::open(rt, path) {
-        Ok(mut file) => Ok(read_full(&mut file, buf)),
+        Ok(mut file) => Ok(Some(read_full(&mut file, buf))),
         Err(e) => {
             eprintln!(rt; "{path}: {e}")?;
-            Ok(buf.len())
+            Ok(None)
         }
     }
 }
 
-// Puts the digit behind `n` others, two to a byte, and passes a blank. There is no place for any other byte, nor past the end.
-fn put_digit(out: &mut [u8], n: usize, b: u8) -> usize {
-    if (b == b' ') | (b == b'\n') {
-        return n;
+// A digit's value.
+fn digit(b: u8) -> Option<u8> {
+    match b {
+        b'0'..=b'9' => Some(b - b'0'),
+        b'A'..=b'F' => Some(b - b'A' + 10),
+        _ => None,
     }
-    let at = n / 2;
-    let d = digit(b);
-    if d > 15 {
-        return NOWHERE;
-    }
-    if out.len() <= at {
-        return NOWHERE;
-    }
-    out[at] = if n % 2 == 0 { d * 16 } else { out[at] | d };
-    std::num::wrapping_add_usize(n, 1)
 }
 
-// The bytes of digits with comments, which begin with a `#` and end with their line.
-fn unhex(s: &[u8], out: &mut [u8]) -> usize {
+// The number that some digits say, as far as it has ten. Any other byte counts as 16.
+pub fn number(s: &[u8]) -> u64 {
+    let mut n: u64 = 0;
+    for &b in s {
+        n = n % 1000000000 * 10 + u64::from(digit(b).unwrap_or(16));
+    }
+    n
+}
+
+// The bytes of digits, two to a byte, with blanks, and with comments, which begin with a `#` and end with their line: how many they
+// are; nothing where any other byte stands there, a digit has no second, or they do not fit.
+fn unhex(s: &[u8], out: &mut [u8]) -> Option<usize> {
     let mut n: usize = 0;
+    let mut first: Option<u8> = None;
     let mut is_comment = false;
-    let mut i: usize = 0;
-    while i < s.len() {
-        is_comment = (is_comment | (s[i] == b'#')) & (s[i] != b'\n');
-        n = put_digit(out, n, if is_comment { b' ' } else { s[i] });
-        i += 1;
+    for &b in s {
+        is_comment = (is_comment | (b == b'#')) & (b != b'\n');
+        if is_comment | (b == b' ') | (b == b'\n') {
+            continue;
+        }
+        let d = digit(b)?;
+        let Some(high) = first else {
+            first = Some(d);
+            continue;
+        };
+        *out.get_mut(n)? = high << 4 | d;
+        first = None;
+        n = n.saturating_add(1);
     }
-    if n % 2 == 0 { n / 2 } else { out.len() }
+    first.is_none().then_some(n)
 }
 
-// A stream, of bytes or of digits.
+// A stream, of bytes or of digits: how many bytes it has; nothing where it has as many as the buffer, or is not there.
 pub fn stream(
     rt: &(impl Files + Eprint),
     name: &[u8],
     kind: &[u8],
     buf: &mut [u8],
-) -> io::Result<usize> {
-    if !check::same(kind, b".hex") {
-        return load(rt, name, kind, buf);
+) -> io::Result<Option<usize>> {
+    if kind != b".hex".as_slice() {
+        let len = load(rt, name, kind, buf)?;
+        return Ok(len.filter(|&n| n < buf.len()));
     }
     let mut digits = [0u8; ROOM];
     let len = load(rt, name, kind, &mut digits)?;
-    Ok(unhex(part(&digits, 0, len), buf))
+    Ok(
+        len.and_then(|n| digits.get(..n))
+            .and_then(|s| unhex(s, buf)),
+    )
 }

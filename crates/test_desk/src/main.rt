@@ -5,10 +5,11 @@
 // The stream is in edges/ring_1.hex, its right lines are in edges/ring_1.txt; the ring has 1 byte, and the record is a fresh one.
 // Where the record is not sound with the ring the one line is `604 0 0`: nothing is read, and nothing written.
 // Each stream is answered in cuts. Where the last number is not 0, so is each of its prefixes, and the stream with one byte changed:
-// each byte in turn (1), or every seventh (7).
+// each byte in turn (1), or every seventh (any other number).
 #![tactic(auto)]
 
-use files::{behind, part, word};
+use damage::Which;
+use files::word;
 use rules::{Failure, Named, Names, Record, Scan, Scanner};
 use std::io;
 use std::rt::Files;
@@ -18,13 +19,12 @@ mod cuts;
 mod damage;
 mod files;
 
-// How many bytes a file has at most, a stream, and the text of one.
+// How many bytes of a file are read, and how many the text of a stream has at most. A stream has fewer.
 pub const ROOM: usize = 65536;
 
-// What was tried: cases, prefixes, and changes that were answered or bad. `right` says that the present case does not differ so far.
-#[derive(Clone, Copy)]
+// What was tried: cases, prefixes, and changes that were answered or bad.
+#[derive(Drop)]
 pub struct Tally {
-    pub right: bool,
     pub cases: u64,
     pub differ: u64,
     pub prefixes: u64,
@@ -32,13 +32,12 @@ pub struct Tally {
     pub bad: u64,
 }
 
-pub fn say(rt: &impl Print, s: &[u8]) -> io::Result<()> {
-    rt.write_all(s)
-}
-
-pub fn say_count(rt: &impl Print, what: &[u8], n: u64) -> io::Result<()> {
-    say(rt, what)?;
-    rt.print(n)
+// What a stream is answered by and held to: the box's numbers at the outset, the ring that it is lent, and the right text.
+#[derive(Drop)]
+pub struct Case<'r, 't> {
+    pub start: [u64; WORDS],
+    pub ring: &'r mut [u8],
+    pub right: &'t [u8],
 }
 
 // J0000000001001.jpg, and J0000000001998.jpg.
@@ -53,128 +52,131 @@ fn named(second: u64) -> Names {
 }
 
 // The record that a word names. Idle with SideNumber 2 is not sound; Idle with a last name is that of a box that other hands have
-// kept; a number is the last job given and the DestinationID.
+// kept; any other word is a number, the last job given and the DestinationID.
 fn start(word: &[u8]) -> Record {
     let mut r = Record::fresh();
-    if check::same(word, b"fresh") {
-        return r;
+    match word {
+        b"fresh" => {}
+        b"unsound" => r.side.number = 2,
+        b"named" => r.names = named(0x3030313030312E6A),
+        b"side_998" => {
+            r.scanner = Scanner {
+                state: Scan::Pending,
+                failure: Failure::None,
+            };
+            r.job.held = 1;
+            r.job.last = 1;
+            r.side.number = 998;
+            r.names = named(0x3030313939382E6A);
+        }
+        digits => {
+            let n = (files::number(digits) % 4294967296) as u32;
+            r.job.last = n;
+            r.side.destination = n;
+        }
     }
-    if check::same(word, b"unsound") {
-        r.side.number = 2;
-        return r;
-    }
-    if check::same(word, b"named") {
-        r.names = named(0x3030313030312E6A);
-        return r;
-    }
-    if check::same(word, b"side_998") {
-        let scanner = Scanner {
-            state: Scan::Pending,
-            failure: Failure::None,
-        };
-        r.scanner = scanner;
-        r.job.held = 1;
-        r.job.last = 1;
-        r.side.number = 998;
-        r.names = named(0x3030313939382E6A);
-        return r;
-    }
-    let n = (files::number(word) % 4294967296) as u32;
-    r.job.last = n;
-    r.side.destination = n;
     r
 }
 
-// A case's files read, and its stream tried.
-fn read(
-    rt: &(impl Files + Print + Eprint),
-    name: &[u8],
-    kind: &[u8],
+// The words of a line: a name, its stream's kind, the ring's length, the record's word, and which bytes are changed.
+#[derive(Drop)]
+struct Line<'l> {
+    name: &'l [u8],
+    kind: &'l [u8],
     len: u64,
-    r: Record,
-    every: u64,
-    t: Tally,
-) -> io::Result<Tally> {
+    record: Record,
+    changed: Option<Which>,
+}
+
+// The words at the front of what is left of the list. The last is all up to the line's end; one that no mark ends is empty.
+fn words(list: &[u8]) -> Line<'_> {
+    let (name, rest) = word(list, b' ');
+    let (kind, rest) = word(rest, b' ');
+    let (len, rest) = word(rest, b' ');
+    let (record, rest) = word(rest, b' ');
+    let (every, _) = word(rest, b'\n');
+    Line {
+        name,
+        kind,
+        len: files::number(len),
+        record: start(record),
+        changed: match files::number(every) {
+            0 => None,
+            1 => Some(Which::Each),
+            _ => Some(Which::Seventh),
+        },
+    }
+}
+
+// A case's files read, and its stream tried. Where there is no text, zero bytes stand for it, which no stream is answered by.
+fn is_right(
+    rt: &(impl Files + Print + Eprint),
+    line: &Line<'_>,
+    t: &mut Tally,
+) -> io::Result<bool> {
     let mut input = [0u8; ROOM];
     let mut right = [0u8; ROOM];
     let mut ring = [0u8; 65537];
-    let from: usize = 0;
-    let n = files::stream(rt, name, kind, &mut input)?;
-    let m = files::load(rt, name, b".txt", &mut right)?;
-    let mut all = t;
-    all.right = false;
-    if n > 65535 {
-        say(rt, b"not read; ")?;
-        return Ok(all);
-    }
-    if len > 65537 {
-        say(rt, b"no such ring; ")?;
-        return Ok(all);
-    }
-    let len = len as usize;
-    let text = part(&right, 0, m);
-    let mut words = [0u64; WORDS];
-    stored::keep(&mut words, r);
-    damage::hold(
-        rt,
-        &words,
-        &mut ring[from..len],
-        &mut input[from..n],
-        text,
-        every,
-        t,
-    )
+    let n = files::stream(rt, line.name, line.kind, &mut input)?;
+    let m = files::load(rt, line.name, b".txt", &mut right)?.unwrap_or(ROOM);
+    let Some(stream) = n.and_then(|n| input.get_mut(..n)) else {
+        print!(rt; "not read; ")?;
+        return Ok(false);
+    };
+    let len = usize::try_from(line.len).ok();
+    let Some(ring) = len.and_then(|len| ring.get_mut(..len)) else {
+        print!(rt; "no such ring; ")?;
+        return Ok(false);
+    };
+    let mut case = Case {
+        start: [0; WORDS],
+        ring,
+        right: right.get(..m).unwrap_or(&[]),
+    };
+    stored::keep(&mut case.start, line.record);
+    damage::hold(rt, &mut case, stream, line.changed, t)
 }
 
-// The case at a place of the list. Where it differs is told before its name.
-fn case(rt: &(impl Files + Print + Eprint), list: &[u8], at: usize, t: Tally) -> io::Result<Tally> {
-    let a = behind(list, at, 1, b' ');
-    let b = behind(list, a, 1, b' ');
-    let c = behind(list, b, 1, b' ');
-    let d = behind(list, c, 1, b' ');
-    let e = behind(list, d, 1, b'\n');
-    let name = word(list, at, a);
-    let len = files::number(word(list, b, c));
-    let r = start(word(list, c, d));
-    let every = files::number(word(list, d, e));
-    let mut all = read(rt, name, word(list, a, b), len, r, every, t)?;
-    all.cases = damage::add(t.cases, true);
-    all.differ = damage::add(t.differ, !all.right);
-    if !all.right {
-        say(rt, b"differs: ")?;
-        say(rt, name)?;
-        say(rt, b"\n")?;
+// Each line's case. Where it differs is told before its name.
+fn cases(rt: &(impl Files + Print + Eprint), list: &[u8], t: &mut Tally) -> io::Result<()> {
+    let mut rest = list;
+    // So many lines at most, since each loop has to end.
+    for _ in 0..1000 {
+        if rest.is_empty() {
+            break;
+        }
+        let line = words(rest);
+        t.cases = t.cases.saturating_add(1);
+        if !is_right(rt, &line, t)? {
+            t.differ = t.differ.saturating_add(1);
+            rt.write_all(b"differs: ")?;
+            rt.write_all(line.name)?;
+            rt.write_all(b"\n")?;
+        }
+        (_, rest) = word(rest, b'\n');
     }
-    Ok(all)
+    Ok(())
 }
 
-fn cases(rt: &(impl Files + Print + Eprint), list: &[u8]) -> io::Result<Tally> {
-    let mut all = Tally {
-        right: true,
+// Where there is no list, zero bytes stand for it: a case with no name, which differs.
+fn main(rt: HostRuntime) -> io::Result<()> {
+    let mut list = [0u8; ROOM];
+    let n = files::load(&rt, b"list", b"", &mut list)?.unwrap_or(ROOM);
+    let mut t = Tally {
         cases: 0,
         differ: 0,
         prefixes: 0,
         answered: 0,
         bad: 0,
     };
-    let mut at: usize = 0;
-    let mut left: usize = 1000;
-    while left > 0 && at < list.len() {
-        all = case(rt, list, at, all)?;
-        at = behind(list, at, 1, b'\n');
-        left -= 1;
-    }
-    Ok(all)
-}
-
-fn main(rt: HostRuntime) -> io::Result<()> {
-    let mut list = [0u8; ROOM];
-    let n = files::load(&rt, b"list", b"", &mut list)?;
-    let t = cases(&rt, part(&list, 0, n))?;
-    say_count(&rt, b"", t.cases)?;
-    say_count(&rt, b" cases, ", t.differ)?;
-    say_count(&rt, b" differ\n", t.prefixes)?;
-    say_count(&rt, b" prefixes; bytes changed: ", t.answered)?;
-    say_count(&rt, b" answered, ", t.bad)?;
-    say(&rt, b" bad\n")
+    cases(&rt, list.get(..n).unwrap_or(&[]), &mut t)?;
+    let Tally {
+        cases,
+        differ,
+        prefixes,
+        answered,
+        bad,
+    } = t;
+    println!(&rt; "{cases} cases, {differ} differ")?;
+    println!(&rt; "{prefixes} prefixes; bytes changed: {answered} answered, {bad} bad")
 }

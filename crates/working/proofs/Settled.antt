@@ -6,10 +6,8 @@ use mathlib.Core.List.{List, []}
 use lib.ListN.{length}
 use Rattle.rules.specs.Calls.{Call, report, Tick}
 use Rattle.answers.specs.declared.Request.{Request}
-use Rattle.answers.specs.declared.Answer.{Answer}
-use Rattle.answers.specs.declared.After.{After}
 use Rattle.answers.specs.Asked.{asked}
-use Rattle.answers.specs.Told.{state_of}
+use Rattle.answers.specs.Told.{Answer, After, state_of}
 use Rattle.answers.proofs.Settled.{call_settled}
 use Rattle.stored.specs.Stored.{recorded, is_box}
 use Rattle.working.specs.Worked.{Does, Works}

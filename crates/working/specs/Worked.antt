@@ -3,9 +3,8 @@ use Rattle.std.specs.Prelude.{ℕ, ◌≡◌, true, List}
 use Rattle.rules.specs.Calls.{Call, lent}
 use Rattle.rules.specs.Machine.{step}
 use Rattle.answers.specs.declared.Request.{Request}
-use Rattle.answers.specs.declared.Answer.{Answer}
 use Rattle.answers.specs.Asked.{asked, replied}
-use Rattle.answers.specs.Told.{state_of, gave}
+use Rattle.answers.specs.Told.{Answer, state_of, gave}
 use Rattle.stored.specs.Stored.{kept, all_fit, recorded}
 
 -- the outcome is the rules', and the numbers are those of the record that it leaves

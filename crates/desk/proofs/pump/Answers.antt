@@ -6,20 +6,20 @@ use Rattle.desk_loop.specs.Program.{goes_on}
 use Rattle.desk.proofs.Reading.{at-outset}
 use Rattle.desk.proofs.pump.Goals as goal
 
-pub loop-turns-init : goal.loop-turns-init
-loop-turns-init g c =
-    (refl, refl, refl, search rules, at-outset c.args.buf.now c.args.out.now c.begin-f.ensures c.requires.w_value c.requires.ring_value)
+pub loop-init : goal.loop-init
+loop-init g c =
+    (refl, refl, refl, search rules, at-outset c.args.buf.now c.args.out.now c.begin-f.ensures c.requires.fresh_box c.requires.paper_ring)
 
-pub advance-requires-clause-held_in_bounds_2 : goal.advance-requires-clause-held_in_bounds_2
-advance-requires-clause-held_in_bounds_2 g c w =
-    room-to-read c.args.buf.now c.args.out.now c.requires.longest_in_bounds c.requires.line_room_in_bounds c.loop-turns.invariant.4
-    c.if-not-f.true w
+pub advance-requires-clause-room_to_read : goal.advance-requires-clause-room_to_read
+advance-requires-clause-room_to_read g c w =
+    room-to-read c.args.buf.now c.args.out.now c.requires.window_roomy c.requires.lines_roomy c.loop.invariant.4
+    c.if-f.false w
 
-pub loop-turns-preserved : goal.loop-turns-preserved
-loop-turns-preserved g c = (
+pub loop-preserved : goal.loop-preserved
+loop-preserved g c = (
   search rules,
   search rules,
   search rules,
-  IfOk-at_ok _ c.in_ok-f.ensures c.advance.ensures.held_in_bounds_3,
-  goes_on c.loop-turns.invariant.4 c.if-not-f.true (IfOk-at_ok _ c.in_ok-f.ensures c.advance.ensures.stepped),
+  IfOk-at_ok _ c.in_ok-f.ensures c.advance.ensures.still_within,
+  goes_on c.loop.invariant.4 c.if-f.false (IfOk-at_ok _ c.in_ok-f.ensures c.advance.ensures.stepped),
 )

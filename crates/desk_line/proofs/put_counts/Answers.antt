@@ -4,4 +4,5 @@ use Rattle.desk_line.proofs.put_counts.Goals as goal
 
 pub returns-clause-puts : goal.returns-clause-puts
 returns-clause-puts c =
-    then (then (then c.put_number-second.ensures.puts c.put_number-third.ensures.puts) c.put_count-space.ensures.puts) c.set_byte.ensures.puts
+    rw (← c.from.ensures, ← c.from-2.ensures)
+    (then (then (then c.put_number-second.ensures.puts c.put_number-third.ensures.puts) c.put_count-space.ensures.puts) c.set_byte.ensures.puts)

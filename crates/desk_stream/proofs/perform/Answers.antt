@@ -1,15 +1,16 @@
 -- A call that is barred leaves all alone; else a turn at the input's front (`Boxing`).
+use Rattle.std.proofs.lemmas.Result.{err_from_is_err_and}
 use Rattle.desk_stream.proofs.Boxing.{performing-barred, performing-one}
 use Rattle.desk_stream.proofs.perform.Goals as goal
 
-pub returns-then-number-gt0-clause-ended_after : goal.returns-then-number-gt0-clause-ended_after
-returns-then-number-gt0-clause-ended_after c =
+pub returns-in_err-barred-clause-performed : goal.returns-in_err-barred-clause-performed
+returns-in_err-barred-clause-performed c =
     let a = c.args in
-    rw c.refused.ensures
-    (performing-barred a.w.now a.ring.now a.reply.now a.s.now a.offset a.last a.out.now c.barred-number.ensures c.if-number-gt0.true)
+    let p = err_from_is_err_and c.from_residual.result c.from_residual.ensures.1 in
+    rw (p.1, p.2) (performing-barred a.w.now a.ring.now a.reply.now a.s.now a.offset a.last a.out.now c.in_err-barred.ensures)
 
-pub returns-clause-ended_after : goal.returns-clause-ended_after
-returns-clause-ended_after c =
+pub returns-clause-performed : goal.returns-clause-performed
+returns-clause-performed c =
     let a = c.args in
-    performing-one a.w.now a.ring.now a.reply.now a.s.now a.offset a.last a.out.now c.barred-number.ensures c.if-number-gt0.false
-    c.turn.ensures.read_value c.turn.ensures.turns c.turn.ensures.reply_after
+    performing-one a.w.now a.ring.now a.reply.now a.s.now a.offset a.last a.out.now c.turn.result c.in_ok-barred.ensures
+    c.turn.ensures.place c.turn.ensures.turns c.turn.ensures.lent

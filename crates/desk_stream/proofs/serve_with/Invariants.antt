@@ -3,9 +3,9 @@ use Rattle.std.proofs.Common.{◌-◌, length}
 use Rattle.desk_stream.proofs.Serving.{Serving}
 use Rattle.desk_stream.proofs.serve_with.Given as goal
 
-abbrev pub invariant-loop-at : goal.invariant-loop-at
-invariant-loop-at l =
-    Serving l.s l.base l.last l.initial.w l.initial.ring l.initial.reply l.initial.out l.w l.ring l.reply l.out l.at l.filled
+abbrev pub invariant-loop-came : goal.invariant-loop-came
+invariant-loop-came l =
+    Serving l.s l.base l.last l.initial.w l.initial.ring l.initial.reply l.initial.out l.w l.ring l.reply l.out l.came.read l.came.written l.came.ended
 
-abbrev pub decreases-loop-at : goal.decreases-loop-at
-decreases-loop-at l = length l.s - l.at
+abbrev pub decreases-loop-came : goal.decreases-loop-came
+decreases-loop-came l = length l.s - l.came.read

@@ -11,47 +11,47 @@ use Rattle.desk_stream.proofs.Pieces.{unheard-turns, unheard-size, asked-place, 
 use Rattle.desk_stream.proofs.turn.Goals as goal
 
 -- ---- nothing reads
-pub returns-in_default-clause-read_value : goal.returns-in_default-clause-read_value
-returns-in_default-clause-read_value c =
+pub returns-in_default-clause-place : goal.returns-in_default-clause-place
+returns-in_default-clause-place c =
     let a = c.args in
     let box = state_of (recorded a.w.now) a.ring.now in
-    let h = heard-bad a.s.now a.at (sym c.hear-hearing.ensures ∙ c.in_default.is) in
-    omega (arith, c.stop.ensures.read_value, unheard-size (a.base + a.at) a.last box (drop a.at a.s.now) h (length a.reply.now))
+    let h = heard-bad a.s.now a.at (sym c.hear.ensures ∙ c.in_default.is) in
+    omega (arith, c.stop.ensures.place, unheard-size (a.base + a.at) a.last box (drop a.at a.s.now) h (length a.reply.now))
 
 pub returns-in_default-clause-turns : goal.returns-in_default-clause-turns
 returns-in_default-clause-turns c =
     let a = c.args in
     let box = state_of (recorded a.w.now) a.ring.now in
-    let h = heard-bad a.s.now a.at (sym c.hear-hearing.ensures ∙ c.in_default.is) in
-    let same = kept-recorded a.w.now c.count.ensures (box-fits a.w.now (length a.ring.now) c.requires.ring_value) in
-    unheard-turns (a.base + a.at) a.last box (drop a.at a.s.now) h c.stop.ensures.number_value c.stop.ensures.ended_value
-    c.stop.ensures.puts (sym same) refl c.requires.ring_value (length a.reply.now)
+    let h = heard-bad a.s.now a.at (sym c.hear.ensures ∙ c.in_default.is) in
+    let same = kept-recorded a.w.now c.told-w (box-fits a.w.now (length a.ring.now) c.requires.boxed) in
+    unheard-turns (a.base + a.at) a.last box (drop a.at a.s.now) h refl c.stop.ensures.ended
+    c.stop.ensures.text (sym same) refl c.requires.boxed (length a.reply.now)
 
-pub returns-in_default-clause-reply_after : goal.returns-in_default-clause-reply_after
-returns-in_default-clause-reply_after c =
+pub returns-in_default-clause-lent : goal.returns-in_default-clause-lent
+returns-in_default-clause-lent c =
     let a = c.args in
     let box = state_of (recorded a.w.now) a.ring.now in
-    let h = heard-bad a.s.now a.at (sym c.hear-hearing.ensures ∙ c.in_default.is) in
+    let h = heard-bad a.s.now a.at (sym c.hear.ensures ∙ c.in_default.is) in
     sym (ap (λ (x : Heard). replied_in x box a.reply.now) h)
 
 -- ---- a record
-pub returns-clause-read_value : goal.returns-clause-read_value
-returns-clause-read_value c =
+pub returns-clause-place : goal.returns-clause-place
+returns-clause-place c =
     let a = c.args in
-    let h = sym c.hear-hearing.ensures ∙ c.in-Record.is in
-    asked-place a.s.now a.at h _ c.payload-body.ensures _ c.given-given.ensures (length a.reply.now) (a.base + a.at) a.last
-    (state_of (recorded a.w.now) a.ring.now) c.answer.ensures.read_value
+    let h = sym c.hear.ensures ∙ c.in-Ok.is in
+    asked-place a.s.now a.at _ h _ c.payload-body.ensures _ c.given-given.ensures (length a.reply.now) (a.base + a.at) a.last
+    (state_of (recorded a.w.now) a.ring.now) c.answer.ensures.place
 
 pub returns-clause-turns : goal.returns-clause-turns
 returns-clause-turns c =
     let a = c.args in
-    let h = sym c.hear-hearing.ensures ∙ c.in-Record.is in
-    asked-turns a.s.now a.at h _ c.payload-body.ensures _ c.given-given.ensures (length a.reply.now) (a.base + a.at) a.last
+    let h = sym c.hear.ensures ∙ c.in-Ok.is in
+    asked-turns a.s.now a.at _ h _ c.payload-body.ensures _ c.given-given.ensures (length a.reply.now) (a.base + a.at) a.last
     (state_of (recorded a.w.now) a.ring.now) c.answer.ensures.turns
 
-pub returns-clause-reply_after : goal.returns-clause-reply_after
-returns-clause-reply_after c =
+pub returns-clause-lent : goal.returns-clause-lent
+returns-clause-lent c =
     let a = c.args in
-    let h = sym c.hear-hearing.ensures ∙ c.in-Record.is in
-    asked-replies a.s.now a.at h _ c.payload-body.ensures _ c.given-given.ensures
-    (state_of (recorded a.w.now) a.ring.now) a.reply.now c.answer.ensures.reply_after
+    let h = sym c.hear.ensures ∙ c.in-Ok.is in
+    asked-replies a.s.now a.at _ h _ c.payload-body.ensures _ c.given-given.ensures
+    (state_of (recorded a.w.now) a.ring.now) a.reply.now c.answer.ensures.lent

@@ -6,5 +6,5 @@ use Rattle.moves.proofs.number_on.Goals as goal
 pub returns-then-r-eq1 : goal.returns-then-r-eq1
 returns-then-r-eq1 c = λ h. numbered-new _ h c.number-n.ensures c.raise.ensures (eq-eqb _ _ c.if-r-eq1.true)
 
-pub returns : goal.returns
-returns c = λ h. numbered-same _ h c.number-n.ensures (ne_eqb _ _ c.if-r-eq1.false)
+pub returns-else-r-eq1 : goal.returns-else-r-eq1
+returns-else-r-eq1 c = λ h. numbered-same _ h c.number-n.ensures (ne_eqb _ _ c.if-r-eq1.false)

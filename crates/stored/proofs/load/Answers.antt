@@ -9,11 +9,11 @@ unfolding all_fit recorded
 returns c = λ e.
     let fit = holds (fitting c.args.w.now) e in
     rw (
-      c.load-names.ensures fit.1.1.1.1.1.1.0,
-      c.load-ring.ensures,
-      c.load-feeder.ensures fit.1.1.1.1.1.0,
-      c.load-settings.ensures fit.1.1.1.1.0,
-      c.load-side.ensures fit.1.1.1.0,
-      c.load-job.ensures fit.1.1.0,
-      c.load-scanner.ensures,
+      c.load-7.ensures fit.1.1.1.1.1.1.0,
+      c.load-6.ensures refl,
+      c.load-5.ensures fit.1.1.1.1.1.0,
+      c.load-4.ensures fit.1.1.1.1.0,
+      c.load-3.ensures fit.1.1.1.0,
+      c.load-2.ensures fit.1.1.0,
+      c.load.ensures fit.1.0,
     ) refl

@@ -15,7 +15,7 @@ pub const FILES: [&str; 9] = ["Name", "Record", "Ring", "Calls", "Feeder", "Move
 pub const TABLE: [&str; 4] = ["Table", "Judged", "Watched", "Worded"];
 
 /// What the rules use of the libraries. A single small letter is any type.
-const LIBRARY: [(&str, &str); 22] = [
+const LIBRARY: [(&str, &str); 24] = [
     ("zero", "ℕ"),
     ("suc", "ℕ → ℕ"),
     ("min", "ℕ → ℕ → ℕ"),
@@ -27,6 +27,8 @@ const LIBRARY: [(&str, &str); 22] = [
     ("map", "(a → b) → List a → List b"),
     ("none", "Option a"),
     ("some", "a → Option a"),
+    ("None", "Option a"),
+    ("Some", "a → Option a"),
     ("eqb", "ℕ → ℕ → Bool"),
     ("leb", "ℕ → ℕ → Bool"),
     ("ltb", "ℕ → ℕ → Bool"),

@@ -10,5 +10,5 @@ returns-then-n-lt100-clause-puts c = moved (put_two _ _ _ _ (omega arith)) (digi
 pub returns-then-n-lt1000-clause-puts : goal.returns-then-n-lt1000-clause-puts
 returns-then-n-lt1000-clause-puts c = moved (put_three _ _ _ _ _ (omega arith)) (digits-three _ (omega arith) (omega arith))
 
-pub returns-clause-upper_bound : goal.returns-clause-upper_bound
-returns-clause-upper_bound c = omega (arith, put-most c.put_decimal.ensures, length_digits most_digits c.args.n)
+pub returns-clause-inside : goal.returns-clause-inside
+returns-clause-inside c = omega (arith, put-most c.put_decimal.ensures, length_digits most_digits c.args.n)

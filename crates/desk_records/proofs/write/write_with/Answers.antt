@@ -1,13 +1,16 @@
--- Each return is a case of the definition, and what was put is whole (`Writes`).
-use Rattle.std.proofs.Common.{rules}
-use Rattle.desk_records.proofs.Writes.{told-601, told-603, told-0}
+-- A buffer too short, and what was put whole (`Writes`).
+use Rattle.std.proofs.Common.{refl, arith}
+use Rattle.desk_records.proofs.Writes.{told-603, told-0}
 use Rattle.desk_records.proofs.write.write_with.Goals as goal
 
-pub returns-then-not-admits : goal.returns-then-not-admits
-returns-then-not-admits c = search (rules, told-601)
-
-pub returns-then-out-width : goal.returns-then-out-width
-returns-then-out-width c = search (rules, told-603)
+pub returns-then-out-need : goal.returns-then-out-need
+returns-then-out-need c =
+    let a = c.args in
+    told-603 a.form.mark a.form.width a.kind a.body.now a.out.now c.limits.ensures c.admits.ensures
+    (rw c.if-not-admits.false) (omega arith) refl
 
 pub returns : goal.returns
-returns c = search (rules, told-0)
+returns c =
+    let a = c.args in
+    told-0 a.form.mark a.form.width a.kind a.body.now a.out.now c.limits.ensures c.admits.ensures (rw c.if-not-admits.false) (omega arith)
+    c.put_record.ensures refl
