@@ -36,7 +36,7 @@ fn refuse(progress: &mut [usize; 3], why: Why) -> u16
     why.into()
 }
 
-// ---- the functions of the header
+// ---- the functions of the header: each answers C by a number
 #[unsafe(no_mangle)]
 pub extern "C" fn bench_box_fresh(words: &mut [u64; WORDS])
     ensures kept { words.new ≡ kept fresh }

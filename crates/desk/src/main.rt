@@ -26,7 +26,7 @@ const RING: usize = 4096;
 const ROOM: usize = 65536;
 
 // Reads what has come, behind the first `held` bytes: at least one is asked for, so that none tells the end. A read that fails brings
-// nothing.
+// nothing. Buffer and `held` go side by side, as the contract speaks of the bytes before it too.
 fn read_behind<R: Read>(input: &mut R, buf: &mut [u8], held: usize) -> io::Result<usize>
     requires { held < length buf.old }
     ensures fits { IfOk result (λ count. held + count ≤ length buf.new) }
@@ -89,12 +89,11 @@ fn write_out<W: Write>(output: &mut W, text: &[u8]) -> io::Result<()>
 
 // Writes the lines out, and answers whether their reader is there. One that has gone is no failure to speak of; any other is. How
 // much of them is out where not all could be written is not told.
-fn say<W: Write>(output: &mut W, out: &[u8], filled: usize) -> io::Result<bool>
-    requires { filled ≤ length out.now }
-    ensures written { IfOk result (λ is_read. is_read ≡ true → Appends (W.contents output.old) (W.contents output.new) (take filled out.now)) }
+fn say<W: Write>(output: &mut W, lines: &[u8]) -> io::Result<bool>
+    ensures written { IfOk result (λ is_read. is_read ≡ true → Appends (W.contents output.old) (W.contents output.new) lines.now) }
     ensures err { IfErr result (λ e. error_kind e ≢ ErrorKind.BrokenPipe) }
 {
-    match write_out(output, &out[..filled]) {
+    match write_out(output, lines) {
         Ok(()) => Ok(true),
         Err(e) if e.kind() == ErrorKind::BrokenPipe => Ok(false),
         Err(e) => Err(e),
@@ -122,7 +121,7 @@ fn pump(
             break;
         }
         f = advance(input, w, ring, buf, out, f).context("desk: standard input")?;
-        if !say(output, out, f.written).context("desk: standard output")? {
+        if !say(output, &out[..f.written]).context("desk: standard output")? {
             break;
         }
     }

@@ -14,7 +14,8 @@ use stored::WORDS;
 // Where the desk stands: `held` bytes of the input in the window, of which those before `at` are answered, and the offset in the
 // input of the byte at `at`; whether the input has ended, whether the window wants more of it, whether all is said; and how much
 // text the last turn put. `wants` and `over` may both hold, and `turned`, `Goes` and `room-to-read` tell each: no enum of the next
-// step has both. That `at` is no further than `held` is no invariant: `turn` takes any flow.
+// step has both. `last` is the input's end, and hides no value. That `at` is no further than `held` is no invariant: `turn` takes any
+// flow. The window is a buffer that is lent, since there is no heap.
 #[derive(Clone, Copy)]
 pub struct Flow {
     pub at: usize,

@@ -56,7 +56,7 @@ fn turn(
     }
 }
 
-// Answers a stream of which all has come (a step of 0), or which grows by `step` bytes, and gathers the text.
+// Answers a stream of which all has come (a step of 0, as a difference tells it), or which grows by `step` bytes, and gathers the text.
 fn gather(case: &mut Case<'_, '_>, s: &[u8], step: usize, out: &mut [u8], to: &mut [u8]) -> usize {
     let mut words = case.start;
     let mut f = Run {

@@ -100,6 +100,7 @@ fn tried(
     let is_bad = w.at < s.len();
     let mut out = [0u8; 16384];
     let mut words = case.start;
+    // A refusal reads nothing and writes nothing.
     let came = desk_stream::serve(&mut words, case.ring, s, 0, true, &mut out).unwrap_or(Came {
         read: 0,
         written: 0,

@@ -69,7 +69,7 @@ fn digit(b: u8) -> Option<u8> {
     }
 }
 
-// The number that some digits say, as far as it has ten. Any other byte counts as 16.
+// The number that some digits say, as far as it has ten. Any other byte counts as 16: every list gets its cases, and no word is refused.
 pub fn number(s: &[u8]) -> u64 {
     let mut n: u64 = 0;
     for &b in s {

@@ -1,5 +1,5 @@
 // The calls on the working record: the numbers of a sound box, changed in place. Nothing tests them again, and each call makes of
-// them no more of the record than it uses.
+// them no more of the record than it uses. That they are a box is a premise and no type, since a host lends any numbers.
 #![tactic(auto)]
 
 ghost use Rattle.std.specs.Prelude.{◌≡◌, true, List, [], ℕ, length};
