@@ -54,8 +54,9 @@ pub extern "C" fn bench_box_tick(words: &mut [u64; WORDS], length: usize) -> u16
     if !stored::is_box(words, length) {
         return Why::Unsound.into();
     }
-    let answer = working::tick(words);
-    answers::number(answer)
+    // Each second of a box is accepted.
+    working::second(words);
+    0
 }
 
 #[unsafe(no_mangle)]
@@ -63,8 +64,11 @@ pub extern "C" fn bench_box_tick(words: &mut [u64; WORDS], length: usize) -> u16
 pub extern "C" fn bench_box_ask(words: &[u64; WORDS], length: usize, question: usize) -> u64
     ensures { result ≡ answer_to words.now length question }
 {
-    if stored::is_box(words, length) && question < stored::ASKED {
-        return words[question];
+    if question < stored::ASKED {
+        let told = words[question];
+        if stored::is_box(words, length) {
+            return told;
+        }
     }
     NONE
 }

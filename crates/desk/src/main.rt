@@ -100,6 +100,14 @@ fn say<W: Write>(output: &mut W, lines: &[u8]) -> io::Result<bool>
     }
 }
 
+// The text that the last turn put, at the front of the lines.
+fn said(lines: &[u8], f: Flow) -> &[u8]
+    requires { f.written ≤ length lines.now }
+    ensures { result.now ≡ take f.written lines.now }
+{
+    &lines[..f.written]
+}
+
 // Step by step until all is said, from a fresh box with the desk's ring, a window for any record and room for any line. Its error is
 // that of a read or of a write, with where it was.
 fn pump(
@@ -121,7 +129,7 @@ fn pump(
             break;
         }
         f = advance(input, w, ring, buf, out, f).context("desk: standard input")?;
-        if !say(output, &out[..f.written]).context("desk: standard output")? {
+        if !say(output, said(out, f)).context("desk: standard output")? {
             break;
         }
     }

@@ -1,5 +1,5 @@
 -- The paper's cases: after which calls, which call, and its whole outcome. A definition that is wrong fails at the line of a case.
-use Rattle.std.specs.Prelude.{ℕ, ◌≡◌, refl, Bool, true, false, cond, Option, Some, eqb, List, [], ◌∷◌, ◌++◌, map, replicate}
+use Rattle.std.specs.Prelude.{ℕ, ◌≡◌, refl, Bool, true, false, Option, Some, None, List, [], ◌∷◌, ◌++◌, map, replicate}
 use Rattle.rules.specs.declared.Scan.{Scan}
 use Rattle.rules.specs.declared.Scan.TheVariants.{Idle, Pending, Scanning, Finishing, Erred}
 use Rattle.rules.specs.declared.Feed.{Feed}
@@ -13,7 +13,6 @@ use Rattle.rules.specs.declared.Feeder.{Feeder}
 use Rattle.rules.specs.declared.Ring.{Ring}
 use Rattle.rules.specs.declared.Input.{Input}
 use Rattle.rules.specs.declared.Denial.{Denial}
-use Rattle.rules.specs.declared.Fed.{Fed}
 use Rattle.rules.specs.declared.Record.{Record}
 use Rattle.rules.specs.Feeder.{stands, fails, tray_at, path_at, reason_for, fed}
 use Rattle.rules.specs.Moves.{with_scanner, with_job, with_side, with_settings, with_feeder, with_ring, with_names, standing, quiet_at, stop_at, count_at, emptied}
@@ -1206,48 +1205,53 @@ walks =
     ∷ []
 
 -- ---- the feeder's rule, entry by entry: state, input, tray and path sensor; the next state and the number
--- the denial that a number stands for, 0 for none
-abbrev pub or_denial : Denial → ℕ → Option Denial → Option Denial
-or_denial why n other = cond (eqb n (number_of (reason_for why))) (Some why) other
+-- what the rule gives, with the paper's number in the denial's place, 0 for none; the expected side is literal
+pub record Ruled : Type 0 where
+  pub next : Feed
+  pub number : ℕ
 
-abbrev pub denial_of : ℕ → Option Denial
-denial_of n = or_denial Denial.WrongState n (or_denial Denial.Erred n (or_denial Denial.NoSheet n Option.None))
+abbrev pub number_in : Option Denial → ℕ
+number_in None = 0
+number_in (Some why) = number_of (reason_for why)
 
-abbrev pub ruled : Feed → ℕ → Fed
-ruled x n = record { next = x; denied = denial_of n }
+abbrev pub rule : ℕ → Feed → Input → ℕ → ℕ → Ruled
+rule m s i t p = record { next = (fed m s i t p).next; number = number_in (fed m s i t p).denied }
 
-pub feeder_rule : List (Case Fed)
+abbrev pub ruled : Feed → ℕ → Ruled
+ruled x n = record { next = x; number = n }
+
+pub feeder_rule : List (Case Ruled)
 unfolding final
 feeder_rule =
-    that "Load from Unloaded" (fed 0 Unloaded Input.Load 1 0) (ruled Loaded 0) refl
-    ∷ that "Load from Loaded" (fed 0 Loaded Input.Load 1 0) (ruled Loaded 0) refl
-    ∷ that "Load from Unloaded, tray empty" (fed 0 Unloaded Input.Load 0 0) (ruled Unloaded 713) refl
-    ∷ that "Load from Loaded, tray empty" (fed 0 Loaded Input.Load 0 0) (ruled Unloaded 713) refl
-    ∷ that "Load, Busy" (fed 0 Busy Input.Load 1 0) (ruled Busy 501) refl
-    ∷ that "Load, Busy, tray empty" (fed 0 Busy Input.Load 0 0) (ruled Busy 501) refl
-    ∷ that "Load, Erred" (fed 0 Stuck Input.Load 1 0) (ruled Stuck 711) refl
-    ∷ that "Load, Erred, tray empty" (fed 0 Stuck Input.Load 0 1) (ruled Stuck 711) refl
-    ∷ that "Eject one from Unloaded" (fed 0 Unloaded Input.EjectOne 1 0) (ruled Unloaded 0) refl
-    ∷ that "Eject one from Loaded" (fed 0 Loaded Input.EjectOne 1 0) (ruled Unloaded 0) refl
-    ∷ that "Eject one, Busy" (fed 0 Busy Input.EjectOne 1 0) (ruled Busy 501) refl
-    ∷ that "Eject one, Erred" (fed 0 Stuck Input.EjectOne 1 0) (ruled Stuck 711) refl
-    ∷ that "Eject all from Unloaded" (fed 0 Unloaded Input.EjectAll 1 0) (ruled Unloaded 0) refl
-    ∷ that "Eject all from Loaded" (fed 0 Loaded Input.EjectAll 1 0) (ruled Unloaded 0) refl
-    ∷ that "Eject all, Busy" (fed 0 Busy Input.EjectAll 1 0) (ruled Busy 501) refl
-    ∷ that "Eject all, Erred" (fed 0 Stuck Input.EjectAll 1 0) (ruled Stuck 711) refl
-    ∷ that "Reset in Unloaded" (fed 0 Unloaded Input.Reset 1 0) (ruled Unloaded 0) refl
-    ∷ that "Reset in Loaded" (fed 0 Loaded Input.Reset 1 0) (ruled Loaded 0) refl
-    ∷ that "Reset, Busy" (fed 0 Busy Input.Reset 1 0) (ruled Busy 501) refl
-    ∷ that "Reset in Erred, path 0" (fed 0 Stuck Input.Reset 1 0) (ruled Unloaded 0) refl
-    ∷ that "Reset in Erred, path 1" (fed 0 Stuck Input.Reset 0 1) (ruled Stuck 0) refl
-    ∷ that "path 1 in Unloaded" (fed 0 Unloaded Input.Jam 1 0) (ruled Stuck 0) refl
-    ∷ that "path 1 in Loaded" (fed 0 Loaded Input.Jam 1 0) (ruled Stuck 0) refl
-    ∷ that "path 1 in Busy" (fed 0 Busy Input.Jam 1 0) (ruled Stuck 0) refl
-    ∷ that "path 1 in Erred" (fed 0 Stuck Input.Jam 1 0) (ruled Stuck 0) refl
-    ∷ that "side ended in Unloaded" (fed 0 Unloaded Input.SideEnd 1 0) (ruled Unloaded 0) refl
-    ∷ that "side ended in Loaded" (fed 0 Loaded Input.SideEnd 1 0) (ruled Loaded 0) refl
-    ∷ that "side ended in Busy" (fed 0 Busy Input.SideEnd 1 0) (ruled Unloaded 0) refl
-    ∷ that "side ended in Erred" (fed 0 Stuck Input.SideEnd 1 0) (ruled Stuck 0) refl
+    that "Load from Unloaded" (rule 0 Unloaded Input.Load 1 0) (ruled Loaded 0) refl
+    ∷ that "Load from Loaded" (rule 0 Loaded Input.Load 1 0) (ruled Loaded 0) refl
+    ∷ that "Load from Unloaded, tray empty" (rule 0 Unloaded Input.Load 0 0) (ruled Unloaded 713) refl
+    ∷ that "Load from Loaded, tray empty" (rule 0 Loaded Input.Load 0 0) (ruled Unloaded 713) refl
+    ∷ that "Load, Busy" (rule 0 Busy Input.Load 1 0) (ruled Busy 501) refl
+    ∷ that "Load, Busy, tray empty" (rule 0 Busy Input.Load 0 0) (ruled Busy 501) refl
+    ∷ that "Load, Erred" (rule 0 Stuck Input.Load 1 0) (ruled Stuck 711) refl
+    ∷ that "Load, Erred, tray empty" (rule 0 Stuck Input.Load 0 1) (ruled Stuck 711) refl
+    ∷ that "Eject one from Unloaded" (rule 0 Unloaded Input.EjectOne 1 0) (ruled Unloaded 0) refl
+    ∷ that "Eject one from Loaded" (rule 0 Loaded Input.EjectOne 1 0) (ruled Unloaded 0) refl
+    ∷ that "Eject one, Busy" (rule 0 Busy Input.EjectOne 1 0) (ruled Busy 501) refl
+    ∷ that "Eject one, Erred" (rule 0 Stuck Input.EjectOne 1 0) (ruled Stuck 711) refl
+    ∷ that "Eject all from Unloaded" (rule 0 Unloaded Input.EjectAll 1 0) (ruled Unloaded 0) refl
+    ∷ that "Eject all from Loaded" (rule 0 Loaded Input.EjectAll 1 0) (ruled Unloaded 0) refl
+    ∷ that "Eject all, Busy" (rule 0 Busy Input.EjectAll 1 0) (ruled Busy 501) refl
+    ∷ that "Eject all, Erred" (rule 0 Stuck Input.EjectAll 1 0) (ruled Stuck 711) refl
+    ∷ that "Reset in Unloaded" (rule 0 Unloaded Input.Reset 1 0) (ruled Unloaded 0) refl
+    ∷ that "Reset in Loaded" (rule 0 Loaded Input.Reset 1 0) (ruled Loaded 0) refl
+    ∷ that "Reset, Busy" (rule 0 Busy Input.Reset 1 0) (ruled Busy 501) refl
+    ∷ that "Reset in Erred, path 0" (rule 0 Stuck Input.Reset 1 0) (ruled Unloaded 0) refl
+    ∷ that "Reset in Erred, path 1" (rule 0 Stuck Input.Reset 0 1) (ruled Stuck 0) refl
+    ∷ that "path 1 in Unloaded" (rule 0 Unloaded Input.Jam 1 0) (ruled Stuck 0) refl
+    ∷ that "path 1 in Loaded" (rule 0 Loaded Input.Jam 1 0) (ruled Stuck 0) refl
+    ∷ that "path 1 in Busy" (rule 0 Busy Input.Jam 1 0) (ruled Stuck 0) refl
+    ∷ that "path 1 in Erred" (rule 0 Stuck Input.Jam 1 0) (ruled Stuck 0) refl
+    ∷ that "side ended in Unloaded" (rule 0 Unloaded Input.SideEnd 1 0) (ruled Unloaded 0) refl
+    ∷ that "side ended in Loaded" (rule 0 Loaded Input.SideEnd 1 0) (ruled Loaded 0) refl
+    ∷ that "side ended in Busy" (rule 0 Busy Input.SideEnd 1 0) (ruled Unloaded 0) refl
+    ∷ that "side ended in Erred" (rule 0 Stuck Input.SideEnd 1 0) (ruled Stuck 0) refl
     ∷ []
 
 pub feeder_moves : List (Case Feeder)

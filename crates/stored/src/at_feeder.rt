@@ -31,7 +31,7 @@ impl Part for Feeder {
     ghost read = { feeder_in };
 
     fn fits(w: &[u64; WORDS]) -> bool {
-        Feed::fits(w[STATE]) & Failure::fits(w[FAILURE]) & u8::fits(w[TRAY]) & u8::fits(w[PATH])
+        Feed::fits(w[STATE]) && Failure::fits(w[FAILURE]) && u8::fits(w[TRAY]) && u8::fits(w[PATH])
     }
 
     fn load(w: &[u64; WORDS]) -> Feeder {

@@ -35,7 +35,7 @@ impl Part for Names {
     ghost whole = { λ m. m.last.len ≤ name_room };
 
     fn fits(w: &[u64; WORDS]) -> bool {
-        u16::fits(w[THIRD]) & (w[LEN] <= 18)
+        u16::fits(w[THIRD]) && w[LEN] <= 18
     }
 
     fn load(w: &[u64; WORDS]) -> Names {

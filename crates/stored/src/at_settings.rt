@@ -27,7 +27,7 @@ impl Part for Settings {
     ghost read = { settings_in };
 
     fn fits(w: &[u64; WORDS]) -> bool {
-        u8::fits(w[FEEDER]) & u8::fits(w[APPEND])
+        u8::fits(w[FEEDER]) && u8::fits(w[APPEND])
     }
 
     fn load(w: &[u64; WORDS]) -> Settings {

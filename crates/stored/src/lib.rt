@@ -63,7 +63,9 @@ pub fn load(w: &[u64; WORDS]) -> Record
     }
 }
 
-// The numbers are a record that is sound with a ring of so many bytes.
+// The numbers are a record that is sound with a ring of so many bytes. A function of its own: it is asked once for a window, and as a
+// part of what serves one it takes registers from every record.
+#[inline(never)]
 #[tactic(auto, unfolding(crate::specs::Stored::is_box))]
 pub fn is_box(w: &[u64; WORDS], length: usize) -> bool
     ensures { result ≡ is_box w.now length }

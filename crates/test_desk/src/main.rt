@@ -23,7 +23,7 @@ mod files;
 pub const ROOM: usize = 65536;
 
 // What was tried: cases, prefixes, and changes that were answered or bad.
-#[derive(Drop)]
+#[derive(Clone, Copy)]
 pub struct Tally {
     pub cases: u64,
     pub differ: u64,

@@ -5,7 +5,7 @@ use Rattle.answers.specs.declared.Told.{Told}
 use Rattle.rules.specs.Record.{idle}
 use Rattle.stored.proofs.Boxes.{box-fits}
 use Rattle.working.proofs.Doing.{did, whole-does, still-does, heard-does, second-still, second-on}
-use Rattle.working.proofs.tick.Goals as goal
+use Rattle.working.proofs.second.Goals as goal
 
 pub returns-then-matches : goal.returns-then-matches
 returns-then-matches c = λ ring box.
