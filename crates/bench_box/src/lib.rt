@@ -14,6 +14,9 @@ use desk_stream::Came;
 use rules::Record;
 use stored::WORDS;
 
+// The number of acceptance: C gets a number.
+const ACCEPTED: u16 = 0;
+
 // The answer to a question that is none: `bench_box_ask` gives C a number.
 const NONE: u64 = u64::MAX;
 
@@ -56,7 +59,7 @@ pub extern "C" fn bench_box_tick(words: &mut [u64; WORDS], length: usize) -> u16
     }
     // Each second of a box is accepted.
     working::second(words);
-    0
+    ACCEPTED
 }
 
 #[unsafe(no_mangle)]
@@ -97,7 +100,7 @@ pub extern "C" fn bench_box_serve(
     match desk_stream::serve(words, ring, input, offset, last, lines) {
         Ok(came) => {
             tell(progress, came);
-            0
+            ACCEPTED
         }
         Err(why) => refuse(progress, why),
     }
@@ -129,7 +132,7 @@ pub extern "C" fn bench_box_perform(
         Ok(one) => {
             tell(progress, one.came);
             match one.outcome {
-                Some(Ok(())) => 0,
+                Some(Ok(())) => ACCEPTED,
                 Some(Err(why)) => why.into(),
                 None => NO_RECORD,
             }
